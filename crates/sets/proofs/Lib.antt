@@ -1,0 +1,4 @@
+pub mod Masks
+pub mod Bounds
+pub mod Counts
+pub mod Tests
