@@ -18,6 +18,10 @@ unfoldable pub countOf : ℕ → (ℕ → Bool) → ℕ
 countOf zero f = 0
 countOf (suc n) f = countOf n f + cond (f n) 1 0
 
+-- how many stations are in the set s
+abbrev pub members : ℕ → ℕ
+members s = countOf 16 (has s)
+
 -- whether every i below n has f i
 unfoldable pub every : ℕ → (ℕ → Bool) → Bool
 every zero f = true

@@ -46,7 +46,7 @@ pub(crate) fn or(a: u16, b: u16) -> u16
 pub(crate) fn flipped(mask: u16) -> u16
     ensures { λ r. ⌜ r ≡ 65535 - mask ⌝ }
 {
-    65535 - mask
+    u16::MAX - mask
 }
 
 // How many bits are set.

@@ -3,7 +3,7 @@ ghost use mathlib.Core.Path.{_≡_};
 ghost use mathlib.Core.Bool.{Bool, not, _||_, _&&_};
 ghost use Prim.Native.Nat.{ℕ};
 ghost use lib.Dec.{eqb, ltb};
-ghost use Rattle.sets.specs.Sets.{has, maskOf, countOf, inside, whole, among as isAmong};
+ghost use Rattle.sets.specs.Sets.{has, maskOf, members, inside, whole, among as isAmong};
 
 mod bits;
 pub mod text;
@@ -61,7 +61,7 @@ pub fn complement(set: u16, n: u8) -> u16
 
 // How many stations are in the set.
 pub fn size(set: u16) -> u8
-    ensures { λ r. ⌜ r ≡ countOf 16 (has set) ⌝ }
+    ensures { λ r. ⌜ r ≡ members set ⌝ }
 {
     ones_in(set)
 }

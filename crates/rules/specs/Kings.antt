@@ -1,0 +1,1 @@
+-- The kings of a caller.

@@ -1,0 +1,5 @@
+pub mod Rules
+pub mod Count
+pub mod Group
+pub mod Making
+pub mod Kings
