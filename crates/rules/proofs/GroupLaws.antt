@@ -42,8 +42,8 @@ module _ (test : ℕ → Bool) (found : List ℕ → Bool) (none : found [] ≡ 
   found-at [] e = absurd (both-ways (found []) none e)
   found-at (m ∷ ms) e =
       ⊎-elim (λ h. (0, omega arith, h))
-        (λ h. let r = found-at ms h in (suc (r .0), omega (arith, r .1), r .2))
-        (or-cases (test m) (found ms) (sym (more m ms) ∙ e))
+      (λ h. let r = found-at ms h in (suc (r .0), omega (arith, r .1), r .2))
+      (or-cases (test m) (found ms) (sym (more m ms) ∙ e))
 
   pub found-from : (ms : List ℕ) (k : ℕ) → k < length ms → test (getD ms k 0) ≡ true → found ms ≡ true
   found-from [] k h e = absurd (omega arith)
@@ -86,8 +86,8 @@ module _ (n : ℕ) (high : n ≤ 16) (ms : List ℕ) where
   which s e =
       let h = own-parts n test s e in
       ⊎-elim (λ f. inl (leb-true (members s) 1 f))
-        (λ f. let r = lies-at ms s f in inr (r .0, r .1, inside-decides s (getD ms (r .0) 0) (mask-16 n s high (h .0)) .0 (r .2)))
-        (or-cases (leb (members s) 1) (lies ms s) (h .1))
+      (λ f. let r = lies-at ms s f in inr (r .0, r .1, inside-decides s (getD ms (r .0) 0) (mask-16 n s high (h .0)) .0 (r .2)))
+      (or-cases (leb (members s) 1) (lies ms s) (h .1))
 
   pub few-fail : (s : ℕ) → s < 2 ^ n → members s ≤ 1 → groupFails n ms s ≡ true
   unfolding test
@@ -156,17 +156,17 @@ module _ (n : ℕ) (high : n ≤ 16) (ms : List ℕ) where
         let b = maskOf n (λ i. not (has m i)) in
         let bl : b < 2 ^ n = maskOf-lt n (λ i. not (has m i)) in
         let cb : members b ≡ countOf n (λ i. not (has m i)) =
-            count-below n b high bl ∙ countOf-ext n (has b) (λ i. not (has m i)) (λ i l. has-maskOf n (λ i. not (has m i)) i l) in
+        count-below n b high bl ∙ countOf-ext n (has b) (λ i. not (has m i)) (λ i l. has-maskOf n (λ i. not (has m i)) i l) in
         apart m b (mask-fails k h) (few-fail b bl (omega (arith, cb, count-below n m high (below k h), count-not n (has m), near)))
-          (λ i l. ap (λ x. has m i || x) (has-maskOf n (λ i. not (has m i)) i l) ∙ either (has m i))
+        (λ i l. ap (λ x. has m i || x) (has-maskOf n (λ i. not (has m i)) i l) ∙ either (has m i))
 
     pub lawful-sound : sound n ms (getD ms k 0) ≡ true
     lawful-sound =
         let m = getD ms k 0 in
         and-from (among n m) (ltb (members m + 1) n && not (completes n ms m)) (lt-among n m (below k h))
-          (and-from (ltb (members m + 1) n) (not (completes n ms m))
-            (⊎-elim (λ t. t) (λ f. absurd (leaves-two (omega (arith, le-of f)))) (cases-bool (ltb (members m + 1) n)))
-            (⊎-elim (λ t. absurd (not-completed t)) (λ f. not-from-false (completes n ms m) f) (cases-bool (completes n ms m))))
+        (and-from (ltb (members m + 1) n) (not (completes n ms m))
+        (⊎-elim (λ t. t) (λ f. absurd (leaves-two (omega (arith, le-of f)))) (cases-bool (ltb (members m + 1) n)))
+        (⊎-elim (λ t. absurd (not-completed t)) (λ f. not-from-false (completes n ms m) f) (cases-bool (completes n ms m))))
       where
         le-of : ltb (members (getD ms k 0) + 1) n ≡ false → n ≤ members (getD ms k 0) + 1
         le-of f = grind (arith, tells)

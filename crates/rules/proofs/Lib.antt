@@ -1,2 +1,3 @@
 pub mod CountLaws
 pub mod GroupLaws
+pub mod KingLaws

@@ -29,14 +29,10 @@ impl CountRule {
         if !makes_count(n, t) {
             return Err(Refusal::UnlawfulRule);
         }
-        Ok(CountRule { n: n as u8, t: t as u8 })
-    }
-
-    // How many stations may be broken together.
-    pub fn t(&self) -> u8
-        ensures { λ r. ⌜ r ≡ now (self .entry) .t ⌝ }
-    {
-        self.t
+        Ok(CountRule {
+            n: n as u8,
+            t: t as u8,
+        })
     }
 }
 

@@ -35,7 +35,11 @@ impl GroupRule {
     pub fn new() -> Self
         ensures { λ r. ⌜ r .n ≡ 3 ⌝ ∗ ⌜ r .count ≡ 0 ⌝ }
     {
-        GroupRule { n: 3, count: 0, masks: [0; 16] }
+        GroupRule {
+            n: 3,
+            count: 0,
+            masks: [0; 16],
+        }
     }
 
     // Fills the rule with n and these masks, or refuses and leaves it as it was.
@@ -49,7 +53,11 @@ impl GroupRule {
         if !keeps_apart(n, masks) {
             return Err(Refusal::UnlawfulRule);
         }
-        *self = GroupRule { n, count: masks.len(), masks: table(masks) };
+        *self = GroupRule {
+            n,
+            count: masks.len(),
+            masks: table(masks),
+        };
         Ok(())
     }
 }

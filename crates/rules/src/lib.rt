@@ -3,8 +3,10 @@ ghost use mathlib.Core.Path.{_≡_};
 ghost use mathlib.Core.Bool.{Bool};
 ghost use Prim.Native.Nat.{ℕ};
 ghost use Rattle.rules.specs.Rules.{Sized, Own, Parts, Singles, Apart};
+
 pub mod count;
 pub mod group;
+pub mod king;
 mod making;
 
 // A rule. Its meaning is its number of stations and its answers; asking changes nothing.

@@ -16,9 +16,10 @@ pub returns-then-not-sound : need.returns-then-not-sound
 returns-then-not-sound c =
     let n = c .args .n in
     let ms = c .args .masks .now in
-    let k = c .loop-m .m-index in
-    (λ e. absurd (both-ways false refl e),
-     λ p. absurd (both-ways (sound n ms (getD ms k 0)) (sym (c .if-not-sound .ensures tt)) (lawful-sound n (c .pre .1) ms (p .0) (p .1) k (c .loop-m-test .taken))))
+    let k = c .loop-m .m-index in (
+      λ e. absurd (both-ways false refl e),
+      λ p. absurd (both-ways (sound n ms (getD ms k 0)) (sym (c .if-not-sound .ensures tt)) (lawful-sound n (c .pre .1) ms (p .0) (p .1) k (c .loop-m-test .taken))),
+    )
 
 pub returns : need.returns
 returns c =
