@@ -44,7 +44,8 @@ impl GroupRule {
 
     // Fills the rule with n and these masks, or refuses and leaves it as it was.
     pub fn make(&mut self, n: u16, masks: &[u16]) -> Result<(), Refusal>
-        ensures { λ r. ⌜ Cases r (λ _. GroupMade n (now (masks .entry)) × (now (self .exit) .n ≡ n) × (take (now (self .exit) .count) (now (self .exit) .masks) ≡ now (masks .entry))) (λ e. (e ≡ UnlawfulRule) × (GroupMade n (now (masks .entry)) → ⊥) × (now (self .exit) ≡ now (self .entry))) ⌝ }
+        ensures made { λ r. ⌜ Cases r (λ _. GroupMade n (now (masks .entry))) (λ e. (e ≡ UnlawfulRule) × (GroupMade n (now (masks .entry)) → ⊥)) ⌝ }
+        ensures after { λ r. ⌜ Cases r (λ _. (now (self .exit) .n ≡ n) × (take (now (self .exit) .count) (now (self .exit) .masks) ≡ now (masks .entry))) (λ _. now (self .exit) ≡ now (self .entry)) ⌝ }
     {
         if !within_bounds(n, masks.len()) {
             return Err(Refusal::UnlawfulRule);

@@ -1,0 +1,2 @@
+// The planner: what a rule allows, which kings each caller has, and how many rounds a cue takes.
+pub mod largest;
