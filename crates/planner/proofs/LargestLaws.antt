@@ -24,10 +24,12 @@ module _ (n : ℕ) (high : n ≤ 16) (fails : ℕ → Bool) (own : Own n fails) 
 
   -- where no station may join, the set is a largest one
   pub none-joins : ((i : ℕ) → i < n → (not (has s i) && fails (withStation s i)) ≡ false) → Largest fails s
-  none-joins none =
-      (can, λ b cb p i e. ⊎-elim (λ t. t)
+  none-joins none = (
+    can,
+    λ b cb p i e. ⊎-elim (λ t. t)
         (λ f. absurd (both-ways _ (none i (has-below n b i (own b cb) e)) (and-from _ _ (not-from-false _ f) (part (withStation s i) b (joined-part i b p e) cb))))
-        (cases-bool (has s i)))
+        (cases-bool (has s i)),
+  )
 
   -- where one may, it is not
   pub one-joins : (i : ℕ) → i < n → (not (has s i) && fails (withStation s i)) ≡ true → Largest fails s → ⊥
@@ -52,7 +54,7 @@ found-skips fails m ms f none =
     record {
       each = λ k h. (f .each k h .0, omega (arith, f .each k h .1));
       all = λ s h p. ⊎-elim (λ (e : s ≡ m). absurd (none (subst (Largest fails) e p))) (λ (d : s ≡ m → ⊥). f .all s (omega arith) p) (cases-eq s m);
-      rising = f .rising
+      rising = f .rising;
     }
 
 module _ (fails : ℕ → Bool) (m : ℕ) (ms : List ℕ) (f : FoundBelow fails m ms) (here : Largest fails m) where
@@ -70,20 +72,20 @@ module _ (fails : ℕ → Bool) (m : ℕ) (ms : List ℕ) (f : FoundBelow fails 
   found-joins =
       record {
         each = λ k h. ⊎-elim
-          (λ (l : k < length ms). (subst (Largest fails) (sym (old-is k l)) (f .each k l .0), omega (arith, old-is k l, f .each k l .1)))
-          (λ (l : length ms ≤ k). let e : length ms ≡ k = omega (arith, one-more) in
+            (λ (l : k < length ms). (subst (Largest fails) (sym (old-is k l)) (f .each k l .0), omega (arith, old-is k l, f .each k l .1)))
+            (λ (l : length ms ≤ k). let e : length ms ≡ k = omega (arith, one-more) in
             let q : getD (ms ++ m ∷ []) k 0 ≡ m = ap (λ x. getD (ms ++ m ∷ []) x 0) (sym e) ∙ last-is in (subst (Largest fails) (sym q) here, omega arith))
-          (cases-lt k (length ms));
+            (cases-lt k (length ms));
         all = λ s h p. ⊎-elim
-          (λ (e : s ≡ m). (length ms, omega (arith, one-more), last-is ∙ sym e))
-          (λ (d : s ≡ m → ⊥). let r = f .all s (omega arith) p in (r .0, omega (arith, one-more, r .1), old-is (r .0) (r .1) ∙ r .2))
-          (cases-eq s m);
+            (λ (e : s ≡ m). (length ms, omega (arith, one-more), last-is ∙ sym e))
+            (λ (d : s ≡ m → ⊥). let r = f .all s (omega arith) p in (r .0, omega (arith, one-more, r .1), old-is (r .0) (r .1) ∙ r .2))
+            (cases-eq s m);
         rising = λ i j h q. ⊎-elim
-          (λ (l : j < length ms). omega (arith, old-is i (omega arith), old-is j l, f .rising i j h l))
-          (λ (l : length ms ≤ j). let e : length ms ≡ j = omega (arith, one-more) in
+            (λ (l : j < length ms). omega (arith, old-is i (omega arith), old-is j l, f .rising i j h l))
+            (λ (l : length ms ≤ j). let e : length ms ≡ j = omega (arith, one-more) in
             let z : getD (ms ++ m ∷ []) j 0 ≡ m = ap (λ x. getD (ms ++ m ∷ []) x 0) (sym e) ∙ last-is in
             omega (arith, z, old-is i (omega arith), f .each i (omega arith) .1))
-          (cases-lt j (length ms))
+            (cases-lt j (length ms));
       }
 
 -- the last mask of n stations

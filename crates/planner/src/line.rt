@@ -62,16 +62,7 @@ impl<T: Drop> From<Refused<T>> for Stop as StopFromRefused {
 
 // The station that stands next.
 fn station(scanner: &mut Scanner) -> Result<u8, Expected> {
-    match scanner.number(Expected::Station) {
-        Ok(s) => {
-            if s < 16 {
-                Ok(s as u8)
-            } else {
-                Err(Expected::Station)
-            }
-        }
-        Err(e) => Err(e),
-    }
+    Ok(scanner.number(15, Expected::Station)? as u8)
 }
 
 // The set that stands next: stations in braces, with commas between them.
@@ -120,9 +111,9 @@ fn sets(heap: Global, scanner: &mut Scanner) -> Result<Vec<u16>, Stop> {
 fn request(heap: Global, scanner: &mut Scanner) -> Result<Request, Stop> {
     if scanner.take_word(b"count") {
         scanner.skip_blanks();
-        let n = scanner.number(Expected::Stations)?;
+        let n = scanner.number(u16::MAX, Expected::Stations)?;
         scanner.skip_blanks();
-        let t = scanner.number(Expected::Broken)?;
+        let t = scanner.number(u16::MAX, Expected::Broken)?;
         scanner.skip_blanks();
         if !scanner.at_end() {
             return Err(Stop::Text(Expected::End));
@@ -131,8 +122,11 @@ fn request(heap: Global, scanner: &mut Scanner) -> Result<Request, Stop> {
     }
     if scanner.take_word(b"group") {
         scanner.skip_blanks();
-        let n = scanner.number(Expected::Stations)?;
-        return Ok(Request::Group { n, masks: sets(heap, scanner)? });
+        let n = scanner.number(u16::MAX, Expected::Stations)?;
+        return Ok(Request::Group {
+            n,
+            masks: sets(heap, scanner)?,
+        });
     }
     Err(Stop::Text(Expected::Rule))
 }
@@ -146,7 +140,10 @@ pub(crate) fn read_line(heap: Global, text: &[u8]) -> Result<Line, AllocError> {
     }
     match request(heap, &mut scanner) {
         Ok(request) => Ok(Line::Asks(request)),
-        Err(Stop::Text(expected)) => Ok(Line::Unreadable { column: scanner.column(), expected }),
+        Err(Stop::Text(expected)) => Ok(Line::Unreadable {
+            column: scanner.column(),
+            expected,
+        }),
         Err(Stop::Memory) => Err(AllocError),
     }
 }

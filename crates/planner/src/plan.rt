@@ -58,7 +58,11 @@ pub fn plan_of<R: Rule>(heap: Global, rule: &R) -> Result<Plan, AllocError>
 {
     let largest = largest_sets(heap, rule)?;
     let kings = kings_of_all(heap, rule)?;
-    Ok(Plan { n: rule.n(), largest, kings })
+    Ok(Plan {
+        n: rule.n(),
+        largest,
+        kings,
+    })
 }
 
 fn plan_count(heap: Global, n: u16, t: u16) -> Result<Outcome, AllocError>

@@ -22,8 +22,16 @@ use std::fmt;
 #[derive(Drop)]
 pub enum Report {
     Nothing,
-    Planned { line: u64, request: Request, outcome: Outcome },
-    Unreadable { line: u64, column: usize, expected: Expected },
+    Planned {
+        line: u64,
+        request: Request,
+        outcome: Outcome,
+    },
+    Unreadable {
+        line: u64,
+        column: usize,
+        expected: Expected,
+    },
 }
 
 // The report on line number `line`, which holds these bytes.
@@ -32,10 +40,18 @@ pub fn on_line(heap: Global, line: u64, text: &[u8]) -> Result<Report, AllocErro
 {
     match read_line(heap, text)? {
         Line::Blank => Ok(Report::Nothing),
-        Line::Unreadable { column, expected } => Ok(Report::Unreadable { line, column, expected }),
+        Line::Unreadable { column, expected } => Ok(Report::Unreadable {
+            line,
+            column,
+            expected,
+        }),
         Line::Asks(request) => {
             let outcome = answer(heap, &request)?;
-            Ok(Report::Planned { line, request, outcome })
+            Ok(Report::Planned {
+                line,
+                request,
+                outcome,
+            })
         }
     }
 }
@@ -43,7 +59,10 @@ pub fn on_line(heap: Global, line: u64, text: &[u8]) -> Result<Report, AllocErro
 pub impl fmt::Display for Request as RequestDisplay {
     fn fmt<W: fmt::Write>(&self, f: &mut fmt::Formatter<W>) -> fmt::Result {
         match self {
-            Request::Count { n, t } => write!(f, "{n} stations, of which any {t} may be broken together"),
+            Request::Count { n, t } => write!(
+                f,
+                "{n} stations, of which any {t} may be broken together"
+            ),
             Request::Group { n, masks } => {
                 write!(f, "{n} stations, of which any one may be broken")?;
                 for m in masks.iter() {
@@ -57,12 +76,16 @@ pub impl fmt::Display for Request as RequestDisplay {
 }
 
 // The largest sets that can fail: for a count rule how many there are, for a group rule each of them.
-fn write_largest<W: fmt::Write>(f: &mut fmt::Formatter<W>, request: &Request, plan: &Plan) -> fmt::Result {
+fn write_largest<W: fmt::Write>(
+    f: &mut fmt::Formatter<W>,
+    request: &Request,
+    plan: &Plan,
+) -> fmt::Result {
     f.write_str("  largest sets that can fail:")?;
     match request {
         Request::Count { n: _, t } => {
             let many = plan.largest.len();
-            write!(f, " the {many} sets of {t} stations\n")
+            write!(f, " the {many} sets of size {t}\n")
         }
         Request::Group { n: _, masks: _ } => {
             for m in plan.largest.iter() {
@@ -91,10 +114,21 @@ pub impl fmt::Display for Report as ReportDisplay {
     fn fmt<W: fmt::Write>(&self, f: &mut fmt::Formatter<W>) -> fmt::Result {
         match self {
             Report::Nothing => Ok(()),
-            Report::Unreadable { line, column, expected } => {
-                write!(f, "line {line}: cannot be read at column {column}: expected {expected}\n")
+            Report::Unreadable {
+                line,
+                column,
+                expected,
+            } => {
+                write!(
+                    f,
+                    "line {line}: cannot be read at column {column}: expected {expected}\n"
+                )
             }
-            Report::Planned { line, request, outcome } => {
+            Report::Planned {
+                line,
+                request,
+                outcome,
+            } => {
                 write!(f, "line {line}: {request}\n")?;
                 match outcome {
                     Outcome::Refused(refusal) => {

@@ -1,4 +1,6 @@
 // A line of text, read from its front.
+ghost use Prim.Native.Nat.{_≤_};
+ghost use Rattle.std.specs.Vec.{made};
 use crate::line::Expected;
 
 // The bytes of a line, and the place up to which they are read.
@@ -74,26 +76,30 @@ impl<'a> Scanner<'a> {
         }
     }
 
-    // The number that stands next; what was expected where there is none, or one that is over 65,535.
-    pub(crate) fn number(&mut self, expected: Expected) -> Result<u16, Expected> {
+    // The number that stands next, of at most `most`; else what was expected, with nothing read.
+    pub(crate) fn number(&mut self, most: u16, expected: Expected) -> Result<u16, Expected>
+        ensures { λ r. ⌜ made r (λ v. v ≤ most) ⌝ }
+    {
         let start = self.at;
-        let mut value: Option<u16> = None;
+        match self.digits() {
+            Some(value) if value <= most => Ok(value),
+            _ => {
+                self.at = start;
+                Err(expected)
+            }
+        }
+    }
+
+    // The value of the digits that stand next, unless there are none or it is over 65,535.
+    fn digits(&mut self) -> Option<u16> {
+        let mut value = self.take_digit()?;
         for _ in 0..self.text.len() {
             let Some(digit) = self.take_digit() else {
                 break;
             };
-            value = match value.unwrap_or(0).checked_mul(10) {
-                Some(tens) => tens.checked_add(digit),
-                None => None,
-            };
-            if value.is_none() {
-                break;
-            }
+            value = value.checked_mul(10)?.checked_add(digit)?;
         }
-        if value.is_none() {
-            self.at = start;
-        }
-        value.ok_or(expected)
+        Some(value)
     }
 
     fn take_digit(&mut self) -> Option<u16> {

@@ -16,12 +16,13 @@ loop-set-again g c =
     let m = c .loop-set .set in
     let ms = vec-items (c .loop-set .sets) in
     elim (c .if-is-largest .came) [
-      then-is-largest·in-Continue-push w ↦
-        subst (FoundBelow fails (m + 1)) (sym (ap vec-items (w .sets-is) ∙ w .in-Continue-push .ensures tt .items))
+      | then-is-largest·in-Continue-push w ↦
+          subst (FoundBelow fails (m + 1)) (sym (ap vec-items (w .sets-is) ∙ w .in-Continue-push .ensures tt .items))
           (found-joins fails m ms (c .loop-set .inv) (c .is-largest .ensures .0 (w .if-is-largest .taken)))
-    | else-is-largest w ↦
-        subst (FoundBelow fails (m + 1)) (sym (ap vec-items (w .sets-is)))
-          (found-skips fails m ms (c .loop-set .inv) (λ p. both-ways (c .is-largest .result) (w .if-is-largest .left) (c .is-largest .ensures .1 p))) ]
+      | else-is-largest w ↦
+          subst (FoundBelow fails (m + 1)) (sym (ap vec-items (w .sets-is)))
+          (found-skips fails m ms (c .loop-set .inv) (λ p. both-ways (c .is-largest .result) (w .if-is-largest .left) (c .is-largest .ensures .1 p)))
+    ]
 
 pub returns : need.returns
 returns g c =
