@@ -6,11 +6,10 @@ use mathlib.Core.List.{List, [], _∷_}
 use native.Mathlib.Omega.{arith}
 use lib.ListN.{length, getD}
 use Rattle.std.proofs.shelf.Tests.{both-ways}
-use Rattle.sets.specs.Sets.{has, maskOf, countOf, every, smallest, inside, whole, among}
-use Rattle.rules.specs.Group.{GroupMade, groupFails}
-use Rattle.rules.specs.Making.{sound}
+use Rattle.sets.specs.Sets.{has, maskOf, countOf, members, every, smallest, inside, among, Whole}
+use Rattle.rules.specs.Making.{NoneCompletes, Sound}
 use Rattle.rules.specs.Kings.{othersBelow, firstOthers, kingCount}
-use Rattle.rules.proofs.GroupLaws.{sound-below, sound-apart, lawful-sound}
+use Rattle.rules.proofs.GroupLaws.{sound-below, sound-apart, not-together, not-one-missing}
 use Rattle.cases.specs.Cases.{trioAndPair, CountCases, GroupCases, KingCases, WorkedCases}
 
 count-cases : CountCases
@@ -24,26 +23,42 @@ count-cases =
       refused = refl;
     }
 
-each-sound : (k : ℕ) → k < length trioAndPair → sound 6 trioAndPair (getD trioAndPair k 0) ≡ true
-unfolding has countOf every whole among
-each-sound zero h = refl
-each-sound (suc zero) h = refl
+each-sound : (k : ℕ) → k < length trioAndPair → Sound 6 trioAndPair (getD trioAndPair k 0)
+unfolding has countOf
+each-sound zero h = (omega arith, omega arith, none)
+  where
+    none : NoneCompletes 6 trioAndPair 7
+    none zero q w = both-ways false refl (w 3 (omega arith))
+    none (suc zero) q w = both-ways false refl (w 5 (omega arith))
+    none (suc (suc k)) q w = omega arith
+each-sound (suc zero) h = (omega arith, omega arith, none)
+  where
+    none : NoneCompletes 6 trioAndPair 24
+    none zero q w = both-ways false refl (w 5 (omega arith))
+    none (suc zero) q w = both-ways false refl (w 0 (omega arith))
+    none (suc (suc k)) q w = omega arith
 each-sound (suc (suc k)) h = absurd (omega arith)
 
-first-trio-unsound : sound 6 (7 ∷ 56 ∷ []) 7 ≡ false
-unfolding has countOf every whole among
-first-trio-unsound = refl
+trios-whole : Whole 6 7 56
+unfolding has
+trios-whole zero h = refl
+trios-whole (suc zero) h = refl
+trios-whole (suc (suc zero)) h = refl
+trios-whole (suc (suc (suc zero))) h = refl
+trios-whole (suc (suc (suc (suc zero)))) h = refl
+trios-whole (suc (suc (suc (suc (suc zero))))) h = refl
+trios-whole (suc (suc (suc (suc (suc (suc i)))))) h = absurd (omega arith)
 
-five-unsound : sound 6 (31 ∷ []) 31 ≡ false
-unfolding has countOf every whole among
-five-unsound = refl
+five-members : 6 ≤ members 31 + 1
+unfolding has countOf
+five-members = omega arith
 
 pub group-cases : GroupCases
 group-cases =
     record {
       trio-and-pair = ((omega arith, omega arith), omega arith, sound-below 6 (omega arith) trioAndPair (omega arith) each-sound, sound-apart 6 (omega arith) trioAndPair (omega arith) each-sound);
-      two-trios = λ m. both-ways _ first-trio-unsound (lawful-sound 6 (omega arith) (7 ∷ 56 ∷ []) (m .2) (m .3) 0 (omega arith));
-      all-but-one = λ m. both-ways _ five-unsound (lawful-sound 6 (omega arith) (31 ∷ []) (m .2) (m .3) 0 (omega arith));
+      two-trios = λ m. not-together 6 (omega arith) (7 ∷ 56 ∷ []) (m .2) (m .3) 7 56 (0, omega arith, refl) (1, omega arith, refl) trios-whole;
+      all-but-one = λ m. not-one-missing 6 (omega arith) (31 ∷ []) (m .2) (m .3) 31 (0, omega arith, refl) five-members;
     }
 
 king-cases : KingCases

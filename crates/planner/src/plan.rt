@@ -2,14 +2,13 @@
 ghost use mathlib.Core.Path.{_≡_};
 ghost use Prim.Native.Nat.{ℕ};
 ghost use Rattle.std.specs.Vec.{made};
-ghost use Rattle.rules.specs.Count.{countFails, CountMade};
-ghost use Rattle.rules.specs.Group.{groupFails, GroupMade};
-ghost use Rattle.planner.specs.Plans.{PlanOf, KingsOfAll, Answers};
+ghost use Rattle.planner.specs.Plans.{PlanOf, KingsOfAll, CountAnswer, GroupAnswer, Answers};
 use crate::largest::largest_sets;
 use refusals::Refusal;
 use rules::Rule;
 use rules::count::CountRule;
 use rules::count::CountRuleRule;
+use rules::flaw::Flaw;
 use rules::group::GroupRule;
 use rules::group::GroupRuleRule;
 use rules::king::Kings;
@@ -32,11 +31,14 @@ pub struct Plan {
     pub kings: Vec<Kings>,
 }
 
-// A rule is made and planned, or refused.
+// A rule is made and planned, or refused for a flaw.
 #[derive(Drop)]
 pub enum Outcome {
     Made(Plan),
-    Refused(Refusal),
+    Refused {
+        refusal: Refusal,
+        flaw: Option<Flaw>,
+    },
 }
 
 // The kings of each station.
@@ -65,22 +67,30 @@ pub fn plan_of<R: Rule>(heap: Global, rule: &R) -> Result<Plan, AllocError>
     })
 }
 
+// The plan of a count rule, or why there is none.
 fn plan_count(heap: Global, n: u16, t: u16) -> Result<Outcome, AllocError>
-    ensures { λ r. ⌜ made r (Answers (Request.Count n t)) ⌝ }
+    ensures { λ r. ⌜ made r (CountAnswer n t) ⌝ }
 {
     match CountRule::new(n, t) {
         Ok(rule) => Ok(Outcome::Made(plan_of(heap, &rule)?)),
-        Err(refusal) => Ok(Outcome::Refused(refusal)),
+        Err(refusal) => Ok(Outcome::Refused {
+            refusal,
+            flaw: CountRule::flaw(n, t),
+        }),
     }
 }
 
-fn plan_group(heap: Global, n: u16, masks: &Vec<u16>) -> Result<Outcome, AllocError>
-    ensures { λ r. ⌜ made r (Answers (Request.Group n (now (masks .entry)))) ⌝ }
+// The plan of a group rule, or why there is none.
+fn plan_group(heap: Global, n: u16, masks: &[u16]) -> Result<Outcome, AllocError>
+    ensures { λ r. ⌜ made r (GroupAnswer n (now (masks .entry))) ⌝ }
 {
     let mut rule = GroupRule::new();
-    match rule.make(n, masks.as_slice()) {
+    match rule.make(n, masks) {
         Ok(()) => Ok(Outcome::Made(plan_of(heap, &rule)?)),
-        Err(refusal) => Ok(Outcome::Refused(refusal)),
+        Err(refusal) => Ok(Outcome::Refused {
+            refusal,
+            flaw: GroupRule::flaw(n, masks),
+        }),
     }
 }
 
@@ -90,6 +100,6 @@ pub fn answer(heap: Global, request: &Request) -> Result<Outcome, AllocError>
 {
     match request {
         Request::Count { n, t } => plan_count(heap, *n, *t),
-        Request::Group { n, masks } => plan_group(heap, *n, masks),
+        Request::Group { n, masks } => plan_group(heap, *n, masks.as_slice()),
     }
 }

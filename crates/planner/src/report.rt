@@ -10,7 +10,10 @@ use crate::plan::Outcome;
 use crate::plan::Plan;
 use crate::plan::Request;
 use crate::plan::answer;
+use refusals::Refusal;
 use refusals::RefusalDisplay;
+use rules::flaw::Flaw;
+use rules::flaw::FlawDisplay;
 use rules::king::Kings;
 use sets::text::Listed;
 use sets::text::ListedDisplay;
@@ -97,6 +100,20 @@ fn write_largest<W: fmt::Write>(
     }
 }
 
+// The refusal with its number, and why.
+fn write_refusal<W: fmt::Write>(
+    f: &mut fmt::Formatter<W>,
+    refusal: &Refusal,
+    flaw: &Option<Flaw>,
+) -> fmt::Result {
+    let number = refusal.number();
+    write!(f, "  refused with {number}: {refusal}\n")?;
+    match flaw {
+        Some(why) => write!(f, "  because {why}\n"),
+        None => Ok(()),
+    }
+}
+
 // A row for each caller.
 fn write_rows<W: fmt::Write>(f: &mut fmt::Formatter<W>, kings: &[Kings]) -> fmt::Result {
     f.write_str("  caller   k  rounds  kings\n")?;
@@ -131,10 +148,7 @@ pub impl fmt::Display for Report as ReportDisplay {
             } => {
                 write!(f, "line {line}: {request}\n")?;
                 match outcome {
-                    Outcome::Refused(refusal) => {
-                        let number = refusal.number();
-                        write!(f, "  refused with {number}: {refusal}\n")
-                    }
+                    Outcome::Refused { refusal, flaw } => write_refusal(f, refusal, flaw),
                     Outcome::Made(plan) => {
                         f.write_str("  made\n")?;
                         write_largest(f, request, plan)?;

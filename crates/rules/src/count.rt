@@ -3,12 +3,14 @@ ghost use mathlib.Core.Path.{_≡_};
 ghost use mathlib.Core.Bool.{Bool, _&&_};
 ghost use Prim.Native.Nat.{ℕ, _*_, _<_, _≤_};
 ghost use lib.Dec.{leb};
-ghost use Rattle.std.specs.Orderings.{Decides};
+ghost use Rattle.std.specs.Options.{Cases as BySome};
 ghost use Rattle.std.specs.Results.{Cases};
 ghost use Rattle.refusals.specs.declared.Refusal.the-variants.{UnlawfulRule};
 ghost use Rattle.sets.specs.Sets.{members};
+ghost use Rattle.rules.specs.Flaws.{CountFlaw};
 ghost use Rattle.rules.specs.Count.{countFails, CountMade};
 use crate::Rule;
+use crate::flaw::Flaw;
 use refusals::Refusal;
 use sets::among;
 use sets::size;
@@ -22,11 +24,30 @@ pub struct CountRule {
 }
 
 impl CountRule {
+    // What keeps these numbers from making a rule, if anything does.
+    pub fn flaw(n: u16, t: u16) -> Option<Flaw>
+        ensures { λ r. ⌜ BySome r (CountMade n t) (λ f. CountFlaw n t f × (CountMade n t → ⊥)) ⌝ }
+    {
+        if n < 3 {
+            return Some(Flaw::FewStations);
+        }
+        if n > 16 {
+            return Some(Flaw::ManyStations);
+        }
+        if t < 1 {
+            return Some(Flaw::NoneBroken);
+        }
+        if 2 * u32::from(t) >= u32::from(n) {
+            return Some(Flaw::HalfBroken);
+        }
+        None
+    }
+
     // The rule of these numbers, or a refusal where they make none.
     pub fn new(n: u16, t: u16) -> Result<CountRule, Refusal>
         ensures { λ r. ⌜ Cases r (λ c. CountMade n t × (c .n ≡ n) × (c .t ≡ t)) (λ e. (e ≡ UnlawfulRule) × (CountMade n t → ⊥)) ⌝ }
     {
-        if !makes_count(n, t) {
+        if CountRule::flaw(n, t).is_some() {
             return Err(Refusal::UnlawfulRule);
         }
         Ok(CountRule {
@@ -34,13 +55,6 @@ impl CountRule {
             t: t as u8,
         })
     }
-}
-
-// Whether the numbers make a count rule.
-fn makes_count(n: u16, t: u16) -> bool
-    ensures { λ r. ⌜ Decides r (CountMade n t) ⌝ }
-{
-    (3 <= n) & (n <= 16) & (1 <= t) & (2 * u32::from(t) < u32::from(n))
 }
 
 // Whether the set has at most t members.

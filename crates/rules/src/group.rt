@@ -4,15 +4,17 @@ ghost use mathlib.Core.Bool.{Bool, _||_, _&&_};
 ghost use Prim.Native.Nat.{ℕ, _≤_};
 ghost use lib.Dec.{leb};
 ghost use lib.ListN.{length, take};
+ghost use Rattle.std.specs.Options.{Cases as BySome};
 ghost use Rattle.std.specs.Results.{Cases};
 ghost use Rattle.refusals.specs.declared.Refusal.the-variants.{UnlawfulRule};
 ghost use Rattle.sets.specs.Sets.{members};
 ghost use Rattle.rules.specs.Rules.{Sized, Apart};
+ghost use Rattle.rules.specs.Flaws.{GroupFlaw};
 ghost use Rattle.rules.specs.Group.{lies, groupFails, Below, GroupMade};
 use crate::Rule;
-use crate::making::keeps_apart;
+use crate::flaw::Flaw;
+use crate::making::masks_flaw;
 use crate::making::table;
-use crate::making::within_bounds;
 use refusals::Refusal;
 use sets::among;
 use sets::size;
@@ -42,20 +44,32 @@ impl GroupRule {
         }
     }
 
+    // What keeps n and these masks from making a rule, if anything does.
+    pub fn flaw(n: u16, masks: &[u16]) -> Option<Flaw>
+        ensures { λ r. ⌜ BySome r (GroupMade n (now (masks .entry))) (λ f. GroupFlaw n (now (masks .entry)) f × (GroupMade n (now (masks .entry)) → ⊥)) ⌝ }
+    {
+        if n < 3 {
+            return Some(Flaw::FewStations);
+        }
+        if n > 16 {
+            return Some(Flaw::ManyStations);
+        }
+        if masks.len() > 16 {
+            return Some(Flaw::ManyMasks);
+        }
+        masks_flaw(n as u8, masks)
+    }
+
     // Fills the rule with n and these masks, or refuses and leaves it as it was.
     pub fn make(&mut self, n: u16, masks: &[u16]) -> Result<(), Refusal>
         ensures made { λ r. ⌜ Cases r (λ _. GroupMade n (now (masks .entry))) (λ e. (e ≡ UnlawfulRule) × (GroupMade n (now (masks .entry)) → ⊥)) ⌝ }
         ensures after { λ r. ⌜ Cases r (λ _. (now (self .exit) .n ≡ n) × (take (now (self .exit) .count) (now (self .exit) .masks) ≡ now (masks .entry))) (λ _. now (self .exit) ≡ now (self .entry)) ⌝ }
     {
-        if !within_bounds(n, masks.len()) {
-            return Err(Refusal::UnlawfulRule);
-        }
-        let n = n as u8;
-        if !keeps_apart(n, masks) {
+        if GroupRule::flaw(n, masks).is_some() {
             return Err(Refusal::UnlawfulRule);
         }
         *self = GroupRule {
-            n,
+            n: n as u8,
             count: masks.len(),
             masks: table(masks),
         };

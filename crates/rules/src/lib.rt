@@ -5,6 +5,7 @@ ghost use Prim.Native.Nat.{ℕ};
 ghost use Rattle.rules.specs.Rules.{Sized, Own, Parts, Singles, Apart};
 
 pub mod count;
+pub mod flaw;
 pub mod group;
 pub mod king;
 mod making;

@@ -1,24 +1,18 @@
-// Whether masks make a group rule, and the table that holds them.
+// What is wrong with the masks of a group rule, and the table that holds them.
 ghost use mathlib.Core.Path.{_≡_};
-ghost use mathlib.Core.Bool.{Bool, not, _&&_};
-ghost use Prim.Native.Nat.{ℕ, _+_, _<_, _≤_};
+ghost use mathlib.Core.Bool.{Bool};
+ghost use Prim.Native.Nat.{ℕ, _+_, _^_, _<_, _≤_};
 ghost use lib.Dec.{ltb};
 ghost use lib.ListN.{length, take};
-ghost use Rattle.std.specs.Orderings.{Decides};
-ghost use Rattle.sets.specs.Sets.{members};
-ghost use Rattle.rules.specs.Rules.{Sized, Apart};
-ghost use Rattle.rules.specs.Group.{groupFails, Below};
-ghost use Rattle.rules.specs.Making.{completes as isCompleted, sound as isSound};
+ghost use Rattle.std.specs.Options.{Cases as BySome};
+ghost use Rattle.sets.specs.Sets.{members, Whole};
+ghost use Rattle.rules.specs.Rules.{Sized};
+ghost use Rattle.rules.specs.Flaws.{OneOf};
+ghost use Rattle.rules.specs.Making.{NoneCompletes, Sound, MasksMade, Flawed};
+use crate::flaw::Flaw;
 use sets::among;
 use sets::make_up;
 use sets::size;
-
-// Whether there are 3 to 16 stations and at most 16 masks.
-pub(crate) fn within_bounds(n: u16, count: usize) -> bool
-    ensures { λ r. ⌜ Decides r (Sized n × (count ≤ 16)) ⌝ }
-{
-    (3 <= n) & (n <= 16) & (count <= 16)
-}
 
 // Whether the mask leaves out two stations at least, so that no single one makes up all n with it.
 fn leaves_two(n: u8, mask: u16) -> bool
@@ -27,36 +21,46 @@ fn leaves_two(n: u8, mask: u16) -> bool
     u16::from(size(mask)) + 1 < u16::from(n)
 }
 
-// Whether one of the masks makes up all n with the set.
-fn completes(n: u8, masks: &[u16], set: u16) -> bool
-    ensures { λ r. ⌜ r ≡ isCompleted n (now (masks .entry)) set ⌝ }
+// The first of the masks that makes up all n with the set.
+fn completing(n: u8, masks: &[u16], set: u16) -> Option<u16>
+    ensures { λ r. ⌜ BySome r (NoneCompletes n (now (masks .entry)) set) (λ m. OneOf m (now (masks .entry)) × Whole n m set) ⌝ }
 {
     for m in masks {
         if make_up(n, *m, set) {
-            return true;
+            return Some(*m);
         }
     }
-    false
+    None
 }
 
-// Whether the mask is one of stations below n that neither a single station nor a mask completes.
-fn sound(n: u8, masks: &[u16], mask: u16) -> bool
-    ensures { λ r. ⌜ r ≡ isSound n (now (masks .entry)) mask ⌝ }
-{
-    among(mask, n) & (leaves_two(n, mask) & !completes(n, masks, mask))
-}
-
-// Whether the masks are of stations below n, and no two sets that can fail make up all n.
-pub(crate) fn keeps_apart(n: u8, masks: &[u16]) -> bool
+// What is wrong with one of the masks.
+fn mask_flaw(n: u8, masks: &[u16], mask: u16) -> Option<Flaw>
     requires { ⌜ Sized n ⌝ }
-    ensures { λ r. ⌜ Decides r (Below n (now (masks .entry)) × Apart n (groupFails n (now (masks .entry)))) ⌝ }
+    ensures { λ r. ⌜ BySome r (Sound n (now (masks .entry)) mask) (λ f. OneOf mask (now (masks .entry)) → Flawed n (now (masks .entry)) f) ⌝ }
+{
+    if !among(mask, n) {
+        return Some(Flaw::Stranger { mask });
+    }
+    if !leaves_two(n, mask) {
+        return Some(Flaw::OneMissing { mask });
+    }
+    match completing(n, masks, mask) {
+        Some(a) => Some(Flaw::Together { a, b: mask }),
+        None => None,
+    }
+}
+
+// What is wrong with the first mask that is not right.
+pub(crate) fn masks_flaw(n: u8, masks: &[u16]) -> Option<Flaw>
+    requires { ⌜ Sized n ⌝ }
+    ensures { λ r. ⌜ BySome r (MasksMade n (now (masks .entry))) (Flawed n (now (masks .entry))) ⌝ }
 {
     for m in masks {
-        if !sound(n, masks, *m) {
-            return false;
+        if let Some(flaw) = mask_flaw(n, masks, *m) {
+            return Some(flaw);
         }
     }
-    true
+    None
 }
 
 // The masks in a table of their own.

@@ -7,7 +7,7 @@ use native.Mathlib.Omega.{arith}
 use native.Mathlib.Nat.{pow-suc}
 use lib.Dec.{eqb, ltb}
 use lib.Pow.{pow-pos, pow-mono}
-use Rattle.std.proofs.shelf.Tests.{cases-lt, cases-bool, lt-ltb, le-ltb, ltb-true, ne-eqb, both-ways}
+use Rattle.std.proofs.shelf.Tests.{cases-lt, cases-bool, lt-ltb, le-ltb, ltb-true, ltb-false, ne-eqb, both-ways}
 use Rattle.std.proofs.shelf.Bits.{pow-below}
 use Rattle.std.proofs.shelf.Ways.{tells}
 use Rattle.sets.specs.Sets.{has, maskOf, among, Part}
@@ -98,6 +98,10 @@ has-low-bits n i l =
 pub among-lt : (n a : ℕ) → among n a ≡ true → a < 2 ^ n
 unfolding among
 among-lt n a e = ltb-true a (2 ^ n) e
+
+pub among-over : (n a : ℕ) → among n a ≡ false → 2 ^ n ≤ a
+unfolding among
+among-over n a e = ltb-false a (2 ^ n) e
 
 pub lt-among : (n a : ℕ) → a < 2 ^ n → among n a ≡ true
 unfolding among
