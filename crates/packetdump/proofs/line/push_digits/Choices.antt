@@ -1,0 +1,10 @@
+use mathlib.Core.Path.{_≡_}
+use mathlib.Core.List.{_++_}
+use lib.ListN.{take}
+use Rattle.std.specs.Joined.{joined}
+use Rattle.std.specs.Of.String.{string-bytes}
+use Rattle.packetdump.specs.Lines.{hexByte}
+use Rattle.packetdump.proofs.line.push_digits.Given as given
+
+abbrev pub Inv-loop-b : given.InvT-loop-b
+Inv-loop-b l = string-bytes (l .line) ≡ string-bytes (l .entry .line) ++ joined (hexByte) (take (l .b-index) (l .bytes))

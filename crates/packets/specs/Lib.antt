@@ -1,0 +1,5 @@
+pub mod Osc
+pub mod Encode
+pub mod Read
+pub mod Write
+pub mod Stream
