@@ -1,0 +1,2 @@
+pub mod Slacken
+pub mod Mended

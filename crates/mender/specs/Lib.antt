@@ -1,0 +1,2 @@
+pub mod Slacks
+pub mod Mending

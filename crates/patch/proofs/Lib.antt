@@ -1,0 +1,4 @@
+pub mod Gathered
+pub mod Digits
+pub mod Boxing
+pub mod Down

@@ -1,0 +1,4 @@
+pub mod Composed
+pub mod NoFloors
+pub mod Standing
+pub mod Alike

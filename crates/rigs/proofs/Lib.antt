@@ -1,0 +1,2 @@
+pub mod Trios
+pub mod Listeners
