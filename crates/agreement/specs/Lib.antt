@@ -1,0 +1,9 @@
+pub mod Meanings
+pub mod Rounds
+pub mod Sheets
+pub mod Calls
+pub mod Piled
+pub mod Agreement
+pub mod Further
+pub mod Unlawful
+pub mod Made
