@@ -1,0 +1,13 @@
+pub mod Fills
+pub mod Kept
+pub mod Trios
+pub mod Writes
+pub mod Entries
+pub mod Scans
+pub mod Lowest
+pub mod WeakTried
+pub mod GradedTried
+pub mod Lamps
+pub mod Suffice
+pub mod Same
+pub mod Rounds

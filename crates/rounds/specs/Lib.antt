@@ -1,0 +1,6 @@
+pub mod Settings
+pub mod Sheets
+pub mod Votes
+pub mod Tallies
+pub mod Tried
+pub mod Outcomes
