@@ -10,6 +10,8 @@ use Rattle.sets.specs.Sets.{has, maskOf, countOf, members, every, smallest, ins
 use Rattle.rules.specs.Making.{NoneCompletes, Sound}
 use Rattle.rules.specs.Kings.{othersBelow, firstOthers, kingCount}
 use Rattle.rules.proofs.GroupLaws.{sound-below, sound-apart, not-together, not-one-missing}
+use Rattle.rig_cases.proofs.Shown.{worked}
+use Rattle.agreement_cases.proofs.Worked.{majorities, one-entry, two-entries, four-entries}
 use Rattle.cases.specs.Cases.{trioAndPair, CountCases, GroupCases, KingCases, WorkedCases}
 
 count-cases : CountCases
@@ -66,4 +68,14 @@ unfolding othersBelow firstOthers kingCount has maskOf countOf every smallest in
 king-cases = record { of-zero = refl; rounds-of-zero = refl; of-five = refl; rounds-of-five = refl; of-six = refl }
 
 pub shown : WorkedCases
-shown = record { count = count-cases; group = group-cases; kings = king-cases }
+shown =
+    record {
+      count = count-cases;
+      group = group-cases;
+      kings = king-cases;
+      rigs = worked;
+      votes = majorities;
+      cueOfOne = one-entry;
+      cueOfTwo = two-entries;
+      cueOfFour = four-entries;
+    }

@@ -8,6 +8,8 @@ use Rattle.refusals.specs.Refusals.{numberOf}
 use Rattle.rules.specs.Count.{CountMade}
 use Rattle.rules.specs.Group.{groupFails, GroupMade}
 use Rattle.rules.specs.Kings.{kingsOf, roundsOf}
+use Rattle.rig_cases.specs.Worked.{WorkedRigs}
+use Rattle.agreement_cases.specs.Cases.{Majorities, OneEntry, TwoEntries, FourEntries}
 
 -- the groups {0,1,2} and {3,4}
 abbrev pub trioAndPair : List ℕ
@@ -36,8 +38,13 @@ pub record KingCases : Type 0 where
   pub rounds-of-five : roundsOf 1 ≡ 4
   pub of-six : kingsOf 6 (groupFails 6 trioAndPair) 6 ≡ Err NoSuchStation
 
--- the whole list
+-- The whole list: rules and kings, rigs, votes, and the worked cues of three gates with a broken caller.
 pub record WorkedCases : Type 0 where
   pub count : CountCases
   pub group : GroupCases
   pub kings : KingCases
+  pub rigs : WorkedRigs
+  pub votes : Majorities
+  pub cueOfOne : OneEntry
+  pub cueOfTwo : TwoEntries
+  pub cueOfFour : FourEntries
