@@ -1,4 +1,6 @@
 // The agreement of a hall's stations: the theorem stands on the contract of `agreement_stands`.
+#![tactic(auto)]
+
 ghost use Rattle.std.specs.Prelude.{List};
 ghost use Rattle.agreement.specs.Meanings.{Lawful};
 ghost use Rattle.agreement.specs.Calls.{Call};
@@ -26,12 +28,12 @@ pub fn further_laws<W>()
 
 // The meanings of parts whose types keep their traits' laws are lawful.
 pub fn parts_are_lawful<R: Rig, Q: Rule, K: WordKind>(rig: &R, rule: &Q, rest: &K)
-    ensures { Lawful (meaning_of R.Wire R.Rig Q.Rule K.WordKind rig.now rule.now rest.now) }
+    ensures { Lawful (meaning_of R.Wire R.Rig.own Q.Rule K.WordKind rig.now rule.now rest.now) }
 {}
 
 // So a hall of any such parts agrees after every history, be its rig a pile or not.
 pub fn parts_agree<R: Rig, Q: Rule, K: WordKind>(rig: &R, rule: &Q, rest: &K)
-    ensures { (h : List (Call K)) → Agrees (meaning_of R.Wire R.Rig Q.Rule K.WordKind rig.now rule.now rest.now) h }
+    ensures { (h : List (Call K)) → Agrees (meaning_of R.Wire R.Rig.own Q.Rule K.WordKind rig.now rule.now rest.now) h }
 {
     agreement_stands::<K>();
     parts_are_lawful(rig, rule, rest);

@@ -1,4 +1,6 @@
 // Worked cues, proved from the definitions, and a cue that decides.
+#![tactic(auto)]
+
 ghost use Rattle.std.specs.Prelude.{◌≡◌, true};
 ghost use Rattle.agreement_cases.specs.Cases.{Majorities, OneEntry, TwoEntries, FourEntries, SomeCueDecides};
 ghost use Rattle.agreement_cases.specs.Mistakes.{VoidForSilence, QLeftOut, OneLampLit};

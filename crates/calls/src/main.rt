@@ -1,4 +1,6 @@
 // Plays a script of calls from standard input, and writes an answer to each making and each call.
+#![tactic(auto)]
+
 use calls_text::player::Player;
 use calls_text::said::Said;
 use std::io;

@@ -1,5 +1,5 @@
 -- The worked cases, by computation and by the laws of the rules.
-use Rattle.std.proofs.Common.{◌≡◌, ℕ, zero, suc, ◌+◌, ◌*◌, ◌<◌, ◌≤◌, true, false, List, [], ◌∷◌, length, get_or, refl, arith}
+use Rattle.std.proofs.Common.{ℕ, zero, suc, ◌+◌, ◌<◌, ◌≤◌, false, [], ◌∷◌, length, get_or, refl, arith}
 use Rattle.std.proofs.lemmas.Bool.{both_ways}
 use Rattle.sets.specs.Sets.{has, mask_of, count_of, members, every, smallest, inside, among, Whole}
 use Rattle.rules.specs.Making.{NoneCompletes, Sound}

@@ -1,4 +1,6 @@
 // The worked cases: as theorems on one contract, and the same cases asked of the code.
+#![tactic(auto)]
+
 ghost use Rattle.std.specs.Prelude.{◌≡◌, ℕ, true, Decides};
 ghost use Rattle.rules.specs.Count.{CountMade};
 ghost use Rattle.rules.specs.Group.{GroupMade};

@@ -35,9 +35,9 @@ fn play<R: Rig, Q: Rule, K: WordKind>(
     call: Call<K>,
     sheet: &mut [u16],
 ) -> Step<K>
-    ensures does { Does R.Wire R.Rig Q.Rule K.WordKind (model hall.old) (asked call sheet.old) sheet.old (model hall.new) result.answer sheet.new }
-    ensures answered { Answers R.Wire R.Rig Q.Rule K.WordKind (model hall.old) (asked call sheet.old) result.answer }
-    ensures history { Continues R.Wire R.Rig Q.Rule K.WordKind (model hall.old) (asked call sheet.old) (model hall.new) }
+    ensures does { Does R.Wire R.Rig.own Q.Rule K.WordKind (model hall.old) (asked call sheet.old) sheet.old (model hall.new) result.answer sheet.new }
+    ensures answered { Answers R.Wire R.Rig.own Q.Rule K.WordKind (model hall.old) (asked call sheet.old) result.answer }
+    ensures history { Continues R.Wire R.Rig.own Q.Rule K.WordKind (model hall.old) (asked call sheet.old) (model hall.new) }
     ensures state { result.state ≡ standing (model hall.new).state }
 {
     let answer = hall.call(call, sheet);
@@ -54,7 +54,7 @@ pub fn replay<R: Rig + Drop, Q: Rule + Drop, K: WordKind>(
     calls: &[Call<K>],
     sheet: &mut [u16],
 ) -> Result<Run<R, Q, K>, AllocError>
-    ensures { MatchResult result (λ p. Replayed R.Wire R.Rig Q.Rule K.WordKind rig rule rest calls.now sheet.old (model p.hall) p.steps.items sheet.new) (λ _. sheet.new ≡ sheet.old) }
+    ensures { MatchResult result (λ p. Replayed R.Wire R.Rig.own Q.Rule K.WordKind rig rule rest calls.now sheet.old (model p.hall) p.steps.items sheet.new) (λ _. sheet.new ≡ sheet.old) }
 {
     let mut steps = Vec::with_capacity(heap, calls.len())?;
     parts_agree(&rig, &rule, &rest);

@@ -1,4 +1,6 @@
 // Examples of packets: what other libraries write, and what is refused.
+#![tactic(auto)]
+
 #[cfg(test)]
 mod tests {
     use packets::{Argument, Entry, Place, packet_size, read_message, write_message};

@@ -1,4 +1,6 @@
 // Shows the packets of a stream, a line for each.
+#![tactic(auto)]
+
 mod input;
 mod line;
 

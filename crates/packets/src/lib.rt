@@ -1,4 +1,6 @@
 // Messages of OSC 1.0: read from a packet, and written into a buffer.
+#![tactic(auto)]
+
 mod entries;
 mod fields;
 mod message;

@@ -1,4 +1,6 @@
 // The planner at a terminal: reads rules from standard input, a line each, and writes what they allow.
+#![tactic(auto)]
+
 use planner::report::on_line;
 use std::io;
 use std::io::{BufRead, BufReader};

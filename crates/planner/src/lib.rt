@@ -1,4 +1,6 @@
 // The planner: what a rule allows, which kings each caller has, and how many rounds a cue takes.
+#![tactic(auto)]
+
 pub mod largest;
 pub mod line;
 pub mod plan;

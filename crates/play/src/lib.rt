@@ -1,4 +1,6 @@
 // Packets to calls: a packet names a call on a hall, and the answer goes back as a message.
+#![tactic(auto)]
+
 ghost use Rattle.std.specs.Prelude.{◌≡◌, List, length, MatchResult};
 ghost use Rattle.agreement.specs.Calls.{next, reply as replied, sheet_after};
 ghost use Rattle.hall.specs.Halls.{model, meant, put, asked};
@@ -54,10 +56,10 @@ pub fn perform<R: Rig, Q: Rule, K: WordKind>(
     call: Call<K>,
     sheet: &mut [u16],
 ) -> Reply
-    ensures value { result ≡ reply_to K.WordKind.code call (replied (meant R.Wire R.Rig Q.Rule K.WordKind (model hall.old)) (model hall.old).state (asked call sheet.old)) }
-    ensures hall { model hall.new ≡ put (model hall.old) (next (meant R.Wire R.Rig Q.Rule K.WordKind (model hall.old)) (model hall.old).state (asked call sheet.old)) }
-    ensures sheet { sheet.new ≡ sheet_after (meant R.Wire R.Rig Q.Rule K.WordKind (model hall.old)) (model hall.old).state (asked call sheet.old) sheet.old }
-    ensures history { Continues R.Wire R.Rig Q.Rule K.WordKind (model hall.old) (asked call sheet.old) (model hall.new) }
+    ensures value { result ≡ reply_to K.WordKind.code call (replied (meant R.Wire R.Rig.own Q.Rule K.WordKind (model hall.old)) (model hall.old).state (asked call sheet.old)) }
+    ensures hall { model hall.new ≡ put (model hall.old) (next (meant R.Wire R.Rig.own Q.Rule K.WordKind (model hall.old)) (model hall.old).state (asked call sheet.old)) }
+    ensures sheet { sheet.new ≡ sheet_after (meant R.Wire R.Rig.own Q.Rule K.WordKind (model hall.old)) (model hall.old).state (asked call sheet.old) sheet.old }
+    ensures history { Continues R.Wire R.Rig.own Q.Rule K.WordKind (model hall.old) (asked call sheet.old) (model hall.new) }
 {
     let answer = hall.call(call, sheet);
     reply_to(call, answer)
@@ -69,7 +71,7 @@ fn answer<R: Rig, Q: Rule, K: WordKind>(
     packet: &[u8],
     sheet: &mut [u16],
 ) -> Reply
-    ensures { Answered R.Wire R.Rig Q.Rule K.WordKind packet.now (model hall.old) sheet.old (model hall.new) sheet.new result }
+    ensures { Answered R.Wire R.Rig.own Q.Rule K.WordKind packet.now (model hall.old) sheet.old (model hall.new) sheet.new result }
 {
     hall.agrees();
     match asks::<K>(packet) {
@@ -85,7 +87,7 @@ pub fn play<R: Rig, Q: Rule, K: WordKind>(
     sheet: &mut [u16],
     out: &mut [u8],
 ) -> Result<usize, Refusal>
-    ensures { MatchResult result (Plays R.Wire R.Rig Q.Rule K.WordKind packet.now (model hall.old) sheet.old out.old (model hall.new) sheet.new out.new) (Unplayed (model hall.old) sheet.old out.old (model hall.new) sheet.new out.new) }
+    ensures { MatchResult result (Plays R.Wire R.Rig.own Q.Rule K.WordKind packet.now (model hall.old) sheet.old out.old (model hall.new) sheet.new out.new) (Unplayed (model hall.old) sheet.old out.old (model hall.new) sheet.new out.new) }
 {
     if !has_room(out.len()) {
         return Err(Refusal::BufferTooShort);

@@ -1,4 +1,6 @@
 // Why a call is refused: one enum for the whole product, its numbers and its words.
+#![tactic(auto)]
+
 ghost use Rattle.std.specs.Prelude.{◌≡◌};
 ghost use Rattle.refusals.specs.Refusals.{number_of};
 

@@ -1,4 +1,6 @@
 // The worked cases of rigs, as theorems on one contract, and tests on tables worked out by hand.
+#![tactic(auto)]
+
 ghost use Rattle.std.specs.Prelude.{◌≡◌, ◌+◌, ◌%◌, ◌^◌, if◌then◌else◌};
 ghost use Rattle.rigs.specs.Keys.{good_wire};
 ghost use Rattle.rigs.specs.Lines.{silence};

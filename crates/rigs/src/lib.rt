@@ -1,6 +1,8 @@
 // Everything that joins stations, as promises: wires, rigs with a trio line, and weak rigs with a torn line and a telling.
 //
 // A question is a key, a 16-bit code and the set of broken stations. Its answer depends on these and the rig alone, and the rig is unchanged.
+#![tactic(auto)]
+
 ghost use Rattle.std.specs.Prelude.{◌≡◌};
 ghost use Rattle.rigs.specs.Lines.{Wires, Casts, Tellings};
 ghost use Rattle.rigs.specs.Laws.{BadWire, Kept, Mute, Spoken, Agreed, Untorn, BadTelling, Passed};

@@ -1,5 +1,7 @@
 // The rounds run on small halls, with outcomes worked out by hand.
 
+#![tactic(auto)]
+
 #[cfg(test)]
 mod tests {
     use agreement::stage::RoundKind;

@@ -1,4 +1,6 @@
 // The rounds of a cue as code, each for all stations: what the stations hold, which lamps are lit and what is on the sheet after it.
+#![tactic(auto)]
+
 pub mod graded;
 pub mod outcome;
 pub mod round;

@@ -38,8 +38,8 @@ fn run_kind<R: Rig, Q: Rule, K: WordKind>(
     sheet: &mut [u16],
 ) -> Outcome
     requires { 4096 ≤ length sheet.old }
-    ensures value { result ≡ outcome_of kind (rule_of Q.Rule rule.now) (setting_from (rig_of R.Wire R.Rig rig.now) (is_word K.WordKind.word) start.now) (K.WordKind.code rest) start.now.caller start.now.lamps }
-    ensures after { sheet.new ≡ round_sheet kind (Q.Rule.stations rule.now) (setting_from (rig_of R.Wire R.Rig rig.now) (is_word K.WordKind.word) start.now) sheet.old }
+    ensures value { result ≡ outcome_of kind (rule_of Q.Rule rule.now) (setting_from (rig_of R.Wire R.Rig.own rig.now) (is_word K.WordKind.word) start.now) (K.WordKind.code rest) start.now.caller start.now.lamps }
+    ensures after { sheet.new ≡ round_sheet kind (Q.Rule.stations rule.now) (setting_from (rig_of R.Wire R.Rig.own rig.now) (is_word K.WordKind.word) start.now) sheet.old }
 {
     let n = rule.n();
     match kind {
@@ -81,8 +81,8 @@ pub fn run<R: Rig, Q: Rule, K: WordKind>(
     start: &Start,
     sheet: &mut [u16],
 ) -> Result<Outcome, Refusal>
-    ensures value { result ≡ fitting sheet.old (outcome_of kind (rule_of Q.Rule rule.now) (setting_from (rig_of R.Wire R.Rig rig.now) (is_word K.WordKind.word) start.now) (K.WordKind.code rest) start.now.caller start.now.lamps) }
-    ensures after { sheet.new ≡ (if nat_le 4096 (length sheet.old) then round_sheet kind (Q.Rule.stations rule.now) (setting_from (rig_of R.Wire R.Rig rig.now) (is_word K.WordKind.word) start.now) sheet.old else sheet.old) }
+    ensures value { result ≡ fitting sheet.old (outcome_of kind (rule_of Q.Rule rule.now) (setting_from (rig_of R.Wire R.Rig.own rig.now) (is_word K.WordKind.word) start.now) (K.WordKind.code rest) start.now.caller start.now.lamps) }
+    ensures after { sheet.new ≡ (if nat_le 4096 (length sheet.old) then round_sheet kind (Q.Rule.stations rule.now) (setting_from (rig_of R.Wire R.Rig.own rig.now) (is_word K.WordKind.word) start.now) sheet.old else sheet.old) }
 {
     if is_short(sheet.len()) {
         return Err(Refusal::SheetTooShort);

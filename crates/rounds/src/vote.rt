@@ -46,7 +46,7 @@ fn readings<R: Rig, K: WordKind>(
     c: u8,
     speaker: u8,
 ) -> (u16, u16, u16)
-    ensures { result ≡ readings_of (setting_from (rig_of R.Wire R.Rig rig.now) (is_word K.WordKind.word) start.now) a b c speaker }
+    ensures { result ≡ readings_of (setting_from (rig_of R.Wire R.Rig.own rig.now) (is_word K.WordKind.word) start.now) a b c speaker }
 {
     let key = TrioKey {
         take: start.take,
@@ -67,7 +67,7 @@ fn readings<R: Rig, K: WordKind>(
 // What each of the three has of their trio.
 fn trio_votes<R: Rig, K: WordKind>(rig: &R, start: &Start, a: u8, b: u8, c: u8) -> (u16, u16, u16)
     requires { (a < b) × (b < c) }
-    ensures { result ≡ votes_of (setting_from (rig_of R.Wire R.Rig rig.now) (is_word K.WordKind.word) start.now) a b c }
+    ensures { result ≡ votes_of (setting_from (rig_of R.Wire R.Rig.own rig.now) (is_word K.WordKind.word) start.now) a b c }
 {
     let x = readings::<R, K>(rig, start, a, b, c, a);
     let y = readings::<R, K>(rig, start, a, b, c, b);
@@ -91,7 +91,7 @@ fn put(sheet: &mut [u16], p: u8, q: u8, r: u8, v: u16)
 // Writes what each of the three has of their trio.
 fn put_trio<R: Rig, K: WordKind>(rig: &R, start: &Start, a: u8, b: u8, c: u8, sheet: &mut [u16])
     requires { (4096 ≤ length sheet.old) × (a < b) × (b < c) × (c < 16) }
-    ensures { sheet.new ≡ put_trio sheet.old a b c (vote_in (setting_from (rig_of R.Wire R.Rig rig.now) (is_word K.WordKind.word) start.now) a b c) }
+    ensures { sheet.new ≡ put_trio sheet.old a b c (vote_in (setting_from (rig_of R.Wire R.Rig.own rig.now) (is_word K.WordKind.word) start.now) a b c) }
 {
     let votes = trio_votes::<R, K>(rig, start, a, b, c);
     put(sheet, a, b, c, votes.0);
@@ -109,7 +109,7 @@ fn vote_with_pair<R: Rig, K: WordKind>(
     sheet: &mut [u16],
 )
     requires { (4096 ≤ length sheet.old) × (n ≤ 16) × (a < b) × (b < n) }
-    ensures { Wrote (with_pair n a b) (vote_entry n (setting_from (rig_of R.Wire R.Rig rig.now) (is_word K.WordKind.word) start.now)) sheet.new sheet.old }
+    ensures { Wrote (with_pair n a b) (vote_entry n (setting_from (rig_of R.Wire R.Rig.own rig.now) (is_word K.WordKind.word) start.now)) sheet.new sheet.old }
 {
     for c in b + 1..n {
         put_trio::<R, K>(rig, start, a, b, c, sheet);
@@ -119,7 +119,7 @@ fn vote_with_pair<R: Rig, K: WordKind>(
 // Writes the votes of all trios whose lowest station is a.
 fn vote_with_lowest<R: Rig, K: WordKind>(rig: &R, n: u8, start: &Start, a: u8, sheet: &mut [u16])
     requires { (4096 ≤ length sheet.old) × (n ≤ 16) × (a < n) }
-    ensures { Wrote (with_lowest n a) (vote_entry n (setting_from (rig_of R.Wire R.Rig rig.now) (is_word K.WordKind.word) start.now)) sheet.new sheet.old }
+    ensures { Wrote (with_lowest n a) (vote_entry n (setting_from (rig_of R.Wire R.Rig.own rig.now) (is_word K.WordKind.word) start.now)) sheet.new sheet.old }
 {
     for b in a + 1..n {
         vote_with_pair::<R, K>(rig, n, start, a, b, sheet);
@@ -140,7 +140,7 @@ fn blank(sheet: &mut [u16])
 // Writes the votes of all trios, each speaker of each trio being asked for once.
 pub(crate) fn vote_all<R: Rig, K: WordKind>(rig: &R, n: u8, start: &Start, sheet: &mut [u16])
     requires { (4096 ≤ length sheet.old) × (n ≤ 16) }
-    ensures { sheet.new ≡ vote_sheet n (setting_from (rig_of R.Wire R.Rig rig.now) (is_word K.WordKind.word) start.now) sheet.old }
+    ensures { sheet.new ≡ vote_sheet n (setting_from (rig_of R.Wire R.Rig.own rig.now) (is_word K.WordKind.word) start.now) sheet.old }
 {
     blank(sheet);
     for a in 0..n {
@@ -156,7 +156,7 @@ pub fn vote<R: Rig, Q: Rule, K: WordKind>(
     sheet: &mut [u16],
 ) -> Result<(), Refusal>
     ensures refused { result ≡ fitting sheet.old tt }
-    ensures after { sheet.new ≡ (if nat_le 4096 (length sheet.old) then vote_sheet (Q.Rule.stations rule.now) (setting_from (rig_of R.Wire R.Rig rig.now) (is_word K.WordKind.word) start.now) sheet.old else sheet.old) }
+    ensures after { sheet.new ≡ (if nat_le 4096 (length sheet.old) then vote_sheet (Q.Rule.stations rule.now) (setting_from (rig_of R.Wire R.Rig.own rig.now) (is_word K.WordKind.word) start.now) sheet.old else sheet.old) }
 {
     if is_short(sheet.len()) {
         return Err(Refusal::SheetTooShort);

@@ -1,14 +1,13 @@
 -- The kings of a caller: what is added turn by turn, and what holds at the end.
-use Rattle.std.proofs.Common.{◌≡◌, ℕ, zero, suc, ◌+◌, ◌-◌, ◌*◌, ◌^◌, ◌<◌, ◌≤◌, Bool, true, false, cond, not, ◌&&◌, ◌||◌, eqb, ltb, leb, ◌⊎◌, sym, refl, ap, ◌∙◌, subst, inl, inr, ⊎_elim, arith}
-use Rattle.std.proofs.lemmas.Bool.{cases_lt, cases_eq, cases_Bool, both_ways, and_parts, not_from_true, not_from_false, not-true, ltb-true}
+use Rattle.std.proofs.Common.{◌≡◌, ℕ, ◌+◌, ◌^◌, ◌<◌, ◌≤◌, Bool, true, false, not, ◌&&◌, ◌||◌, eqb, ltb, sym, ap, ◌∙◌, subst, ⊎_elim, arith}
+use Rattle.std.proofs.lemmas.Bool.{cases_lt, cases_Bool, both_ways, not_from_true, not_from_false}
 use Rattle.std.proofs.lemmas.Nat.{pow_below}
 use Rattle.std.proofs.lemmas.Bool.Decides.{nat_tests}
-use Rattle.sets.specs.Sets.{has, mask_of, smallest, Whole}
+use Rattle.sets.specs.Sets.{has, mask_of, Whole}
 use Rattle.sets.proofs.Masks.{has-mask_of, has-mask_of-high, mask_of-lt, mask_is, has-none, has_one}
 use Rattle.sets.proofs.Bounds.{mask_cut, has-below}
 use Rattle.sets.proofs.Tests.{smallest-is}
 use Rattle.rules.specs.Rules.{Sized, Singles, Apart}
-use Rattle.rules.specs.declared.king.Kings.{Kings}
 use Rattle.rules.specs.Kings.{others_below, first_others, with_caller, king_count, king, KingFacts}
 
 -- who is among the first k others

@@ -4,7 +4,7 @@ use Rattle.std.proofs.Common.{sym, subst}
 use native.Mathlib.Omega.{arith}
 use Rattle.std.proofs.lemmas.Bool.{le-leb, leb-true, and_parts, and_from}
 use Rattle.std.proofs.lemmas.Nat.{pow_below}
-use Rattle.sets.specs.Sets.{has, count_of, members, among, Part, Whole}
+use Rattle.sets.specs.Sets.{has, members, among, Part, Whole}
 use Rattle.sets.proofs.Masks.{has_one}
 use Rattle.sets.proofs.Bounds.{among-lt, lt-among, part-lt}
 use Rattle.sets.proofs.Counts.{count_of_ext, count_le, count-up, count_or, count_full, count-one}

@@ -1,5 +1,5 @@
 -- The laws of the group rule, and when masks keep the third of them.
-use Rattle.std.specs.Prelude.{◌≡◌, ℕ, zero, suc, ◌+◌, ◌-◌, ◌*◌, ◌^◌, ◌<◌, ◌≤◌, Bool, true, false, not, ◌&&◌, ◌||◌, ◌⊎◌, List, [], ◌∷◌, length, drop, nat_le, slice_index, slice_index_or, refl}
+use Rattle.std.specs.Prelude.{◌≡◌, ℕ, zero, suc, ◌+◌, ◌^◌, ◌<◌, ◌≤◌, Bool, true, false, not, ◌||◌, ◌⊎◌, List, [], ◌∷◌, length, drop, nat_le, slice_index, slice_index_or, refl}
 use Rattle.std.proofs.Common.{sym, ap, subst, ◌∙◌, arith, add-one, drop-cons}
 use Rattle.std.proofs.Math.Logic.{inl, inr, ⊎_elim}
 use Rattle.std.proofs.lemmas.List.{drop_all}
@@ -11,10 +11,10 @@ use Rattle.sets.proofs.Masks.{has-mask_of, mask_of-lt}
 use Rattle.sets.proofs.Bounds.{part-lt, mask_16}
 use Rattle.sets.proofs.Counts.{count_of_ext, count-below, count-not}
 use Rattle.sets.proofs.Tests.{inside-decides}
-use Rattle.rules.specs.Rules.{Sized, Own, Parts, Singles, Apart}
+use Rattle.rules.specs.Rules.{Own, Parts, Singles, Apart}
 use Rattle.rules.specs.Group.{lies, group_fails, Below}
 use Rattle.rules.specs.Flaws.{OneOf}
-use Rattle.rules.specs.Making.{NoneCompletes, Sound}
+use Rattle.rules.specs.Making.{Sound}
 use Rattle.rules.specs.CountLaws.{one-member, part-members, whole-members, own-parts, own_from}
 
 -- the masks from place i on: the first of them, and the others

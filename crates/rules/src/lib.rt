@@ -1,4 +1,6 @@
 // Rules: how many stations a hall has, and which sets of them can fail, that is, may all be broken together.
+#![tactic(auto)]
+
 ghost use Rattle.std.specs.Prelude.{◌≡◌, ℕ, Bool};
 ghost use Rattle.rules.specs.Rules.{Sized, Own, Parts, Singles, Apart};
 

@@ -1,4 +1,6 @@
 // Sets of stations: a set is a 16-bit mask, bit i for station i. A number from 16 on names no station of any set.
+#![tactic(auto)]
+
 ghost use Rattle.std.specs.Prelude.{◌≡◌, ℕ, Bool, not, ◌&&◌, ◌||◌, ltb, ◌==◌, nat_lt};
 ghost use Rattle.sets.specs.Sets.{has, mask_of, members, inside, whole, among as is_among};
 

@@ -1,5 +1,7 @@
 // Examples of words and codes, proved safe and then run.
 
+#![tactic(auto)]
+
 #[cfg(test)]
 mod tests {
     use refusals::Refusal;

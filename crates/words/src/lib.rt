@@ -1,4 +1,6 @@
 // What stations say to each other: word kinds, which give each word a code. The gate and the scene are supplied.
+#![tactic(auto)]
+
 ghost use Rattle.std.specs.Prelude.{◌≡◌, ℕ, Bool, Option};
 ghost use Rattle.words.specs.Kinds.{is_word, Back, Only, Sized, Full};
 

@@ -1,4 +1,4 @@
-use Rattle.std.proofs.Common.{◌≡◌, Bool, true, false, not, Decides, ⊎_elim}
+use Rattle.std.proofs.Common.{◌≡◌, Bool, true, not, Decides, ⊎_elim}
 use Rattle.std.proofs.lemmas.Bool.{and_from, not_from_false, cases_Bool}
 use Rattle.cases.proofs.Shown.{group_cases}
 use Rattle.cases.proofs.groups_hold.Goals as goal
@@ -9,5 +9,5 @@ refuses b d none = not_from_false b (⊎_elim (λ t. absurd (none (d.0 t))) (λ 
 pub returns : goal.returns
 returns c =
     and_from _ _
-    (and_from _ _ (c.group-made.ensures.1 group_cases.trio_and_pair_lem) (refuses _ c.group-made-2.ensures group_cases.two-trios))
-    (refuses _ c.group-made-3.ensures group_cases.all_but_one)
+    (and_from _ _ (c.group_made.ensures.1 group_cases.trio_and_pair_lem) (refuses _ c.group_made-2.ensures group_cases.two-trios))
+    (refuses _ c.group_made-3.ensures group_cases.all_but_one)

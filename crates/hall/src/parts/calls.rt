@@ -44,8 +44,8 @@ fn stage_after(take: u16, caller: u8, kings: u8, rounds: u8) -> Stage
 impl<R: Rig, Q: Rule, K: WordKind> Hall<R, Q, K> {
     // A hall of this rig, rule and rest word, idle, with all stations good.
     pub fn new(rig: R, rule: Q, rest: K) -> Self
-        ensures made { Had R.Wire R.Rig Q.Rule K.WordKind rig rule rest (model result) [] }
-        ensures agreed { Agrees (meaning_of R.Wire R.Rig Q.Rule K.WordKind rig rule rest) [] }
+        ensures made { Had R.Wire R.Rig.own Q.Rule K.WordKind rig rule rest (model result) [] }
+        ensures agreed { Agrees (meaning_of R.Wire R.Rig.own Q.Rule K.WordKind rig rule rest) [] }
     {
         parts_agree(&rig, &rule, &rest);
         Hall::idle(rig, rule, rest)
@@ -68,9 +68,9 @@ impl<R: Rig, Q: Rule, K: WordKind> Hall<R, Q, K> {
 
     // One call, which is done or refused. Only a round that is not refused may write to the sheet.
     pub fn call(&mut self, call: Call<K>, sheet: &mut [u16]) -> Result<Answer<K>, Refusal>
-        ensures does { Does R.Wire R.Rig Q.Rule K.WordKind (model self.old) (asked call sheet.old) sheet.old (model self.new) result sheet.new }
-        ensures answered { Answers R.Wire R.Rig Q.Rule K.WordKind (model self.old) (asked call sheet.old) result }
-        ensures history { Continues R.Wire R.Rig Q.Rule K.WordKind (model self.old) (asked call sheet.old) (model self.new) }
+        ensures does { Does R.Wire R.Rig.own Q.Rule K.WordKind (model self.old) (asked call sheet.old) sheet.old (model self.new) result sheet.new }
+        ensures answered { Answers R.Wire R.Rig.own Q.Rule K.WordKind (model self.old) (asked call sheet.old) result }
+        ensures history { Continues R.Wire R.Rig.own Q.Rule K.WordKind (model self.old) (asked call sheet.old) (model self.new) }
     {
         parts_agree(&self.rig, &self.rule, &self.rest);
         self.judge(call, sheet)
@@ -78,9 +78,9 @@ impl<R: Rig, Q: Rule, K: WordKind> Hall<R, Q, K> {
 
     // Starts a cue.
     pub fn open(&mut self, take: u16, caller: u16, word: K) -> Result<(), Refusal>
-        ensures answer { result ≡ done_of (reply (meant R.Wire R.Rig Q.Rule K.WordKind (model self.old)) (model self.old).state (asks_open take caller word)) }
-        ensures hall { model self.new ≡ put (model self.old) (next (meant R.Wire R.Rig Q.Rule K.WordKind (model self.old)) (model self.old).state (asks_open take caller word)) }
-        ensures history { Continues R.Wire R.Rig Q.Rule K.WordKind (model self.old) (asks_open take caller word) (model self.new) }
+        ensures answer { result ≡ done_of (reply (meant R.Wire R.Rig.own Q.Rule K.WordKind (model self.old)) (model self.old).state (asks_open take caller word)) }
+        ensures hall { model self.new ≡ put (model self.old) (next (meant R.Wire R.Rig.own Q.Rule K.WordKind (model self.old)) (model self.old).state (asks_open take caller word)) }
+        ensures history { Continues R.Wire R.Rig.own Q.Rule K.WordKind (model self.old) (asks_open take caller word) (model self.new) }
     {
         match self.call(Call::Open { take, caller, word }, &mut []) {
             Ok(_) => Ok(()),
@@ -90,10 +90,10 @@ impl<R: Rig, Q: Rule, K: WordKind> Hall<R, Q, K> {
 
     // Runs one round.
     pub fn round(&mut self, sheet: &mut [u16]) -> Result<(), Refusal>
-        ensures answer { result ≡ done_of (reply (meant R.Wire R.Rig Q.Rule K.WordKind (model self.old)) (model self.old).state (asks-round sheet.old)) }
-        ensures hall { model self.new ≡ put (model self.old) (next (meant R.Wire R.Rig Q.Rule K.WordKind (model self.old)) (model self.old).state (asks-round sheet.old)) }
-        ensures left { sheet.new ≡ sheet_after (meant R.Wire R.Rig Q.Rule K.WordKind (model self.old)) (model self.old).state (asks-round sheet.old) sheet.old }
-        ensures history { Continues R.Wire R.Rig Q.Rule K.WordKind (model self.old) (asks-round sheet.old) (model self.new) }
+        ensures answer { result ≡ done_of (reply (meant R.Wire R.Rig.own Q.Rule K.WordKind (model self.old)) (model self.old).state (asks-round sheet.old)) }
+        ensures hall { model self.new ≡ put (model self.old) (next (meant R.Wire R.Rig.own Q.Rule K.WordKind (model self.old)) (model self.old).state (asks-round sheet.old)) }
+        ensures left { sheet.new ≡ sheet_after (meant R.Wire R.Rig.own Q.Rule K.WordKind (model self.old)) (model self.old).state (asks-round sheet.old) sheet.old }
+        ensures history { Continues R.Wire R.Rig.own Q.Rule K.WordKind (model self.old) (asks-round sheet.old) (model self.new) }
     {
         match self.call(Call::Round, sheet) {
             Ok(_) => Ok(()),
@@ -103,9 +103,9 @@ impl<R: Rig, Q: Rule, K: WordKind> Hall<R, Q, K> {
 
     // Ends a cue.
     pub fn strike(&mut self) -> Result<(), Refusal>
-        ensures answer { result ≡ done_of (reply (meant R.Wire R.Rig Q.Rule K.WordKind (model self.old)) (model self.old).state asks_strike) }
-        ensures hall { model self.new ≡ put (model self.old) (next (meant R.Wire R.Rig Q.Rule K.WordKind (model self.old)) (model self.old).state asks_strike) }
-        ensures history { Continues R.Wire R.Rig Q.Rule K.WordKind (model self.old) asks_strike (model self.new) }
+        ensures answer { result ≡ done_of (reply (meant R.Wire R.Rig.own Q.Rule K.WordKind (model self.old)) (model self.old).state asks_strike) }
+        ensures hall { model self.new ≡ put (model self.old) (next (meant R.Wire R.Rig.own Q.Rule K.WordKind (model self.old)) (model self.old).state asks_strike) }
+        ensures history { Continues R.Wire R.Rig.own Q.Rule K.WordKind (model self.old) asks_strike (model self.new) }
     {
         match self.call(Call::Strike, &mut []) {
             Ok(_) => Ok(()),
@@ -115,9 +115,9 @@ impl<R: Rig, Q: Rule, K: WordKind> Hall<R, Q, K> {
 
     // Makes a station broken.
     pub fn mark(&mut self, station: u16) -> Result<(), Refusal>
-        ensures answer { result ≡ done_of (reply (meant R.Wire R.Rig Q.Rule K.WordKind (model self.old)) (model self.old).state (asks-mark station)) }
-        ensures hall { model self.new ≡ put (model self.old) (next (meant R.Wire R.Rig Q.Rule K.WordKind (model self.old)) (model self.old).state (asks-mark station)) }
-        ensures history { Continues R.Wire R.Rig Q.Rule K.WordKind (model self.old) (asks-mark station) (model self.new) }
+        ensures answer { result ≡ done_of (reply (meant R.Wire R.Rig.own Q.Rule K.WordKind (model self.old)) (model self.old).state (asks-mark station)) }
+        ensures hall { model self.new ≡ put (model self.old) (next (meant R.Wire R.Rig.own Q.Rule K.WordKind (model self.old)) (model self.old).state (asks-mark station)) }
+        ensures history { Continues R.Wire R.Rig.own Q.Rule K.WordKind (model self.old) (asks-mark station) (model self.new) }
     {
         match self.call(Call::Mark(station), &mut []) {
             Ok(_) => Ok(()),
@@ -127,9 +127,9 @@ impl<R: Rig, Q: Rule, K: WordKind> Hall<R, Q, K> {
 
     // Makes a station good.
     pub fn clear(&mut self, station: u16) -> Result<(), Refusal>
-        ensures answer { result ≡ done_of (reply (meant R.Wire R.Rig Q.Rule K.WordKind (model self.old)) (model self.old).state (asks-clear station)) }
-        ensures hall { model self.new ≡ put (model self.old) (next (meant R.Wire R.Rig Q.Rule K.WordKind (model self.old)) (model self.old).state (asks-clear station)) }
-        ensures history { Continues R.Wire R.Rig Q.Rule K.WordKind (model self.old) (asks-clear station) (model self.new) }
+        ensures answer { result ≡ done_of (reply (meant R.Wire R.Rig.own Q.Rule K.WordKind (model self.old)) (model self.old).state (asks-clear station)) }
+        ensures hall { model self.new ≡ put (model self.old) (next (meant R.Wire R.Rig.own Q.Rule K.WordKind (model self.old)) (model self.old).state (asks-clear station)) }
+        ensures history { Continues R.Wire R.Rig.own Q.Rule K.WordKind (model self.old) (asks-clear station) (model self.new) }
     {
         match self.call(Call::Clear(station), &mut []) {
             Ok(_) => Ok(()),
@@ -139,9 +139,9 @@ impl<R: Rig, Q: Rule, K: WordKind> Hall<R, Q, K> {
 
     // The word that a station holds.
     pub fn read(&self, station: u16) -> Result<K, Refusal>
-        ensures answer { as_word result ≡ reply (meant R.Wire R.Rig Q.Rule K.WordKind (model self.now)) (model self.now).state (asks_read station) }
-        ensures answered { Answers R.Wire R.Rig Q.Rule K.WordKind (model self.now) (asks_read station) (as_word result) }
-        ensures history { Continues R.Wire R.Rig Q.Rule K.WordKind (model self.now) (asks_read station) (model self.now) }
+        ensures answer { as_word result ≡ reply (meant R.Wire R.Rig.own Q.Rule K.WordKind (model self.now)) (model self.now).state (asks_read station) }
+        ensures answered { Answers R.Wire R.Rig.own Q.Rule K.WordKind (model self.now) (asks_read station) (as_word result) }
+        ensures history { Continues R.Wire R.Rig.own Q.Rule K.WordKind (model self.now) (asks_read station) (model self.now) }
     {
         parts_agree(&self.rig, &self.rule, &self.rest);
         self.decided_word(station)
@@ -149,9 +149,9 @@ impl<R: Rig, Q: Rule, K: WordKind> Hall<R, Q, K> {
 
     // 1 if the lamp of a station is lit, else 0.
     pub fn lamp(&self, station: u16) -> Result<u16, Refusal>
-        ensures answer { as_lit result ≡ reply (meant R.Wire R.Rig Q.Rule K.WordKind (model self.now)) (model self.now).state (asks-lamp station) }
-        ensures answered { Answers R.Wire R.Rig Q.Rule K.WordKind (model self.now) (asks-lamp station) (as_lit result) }
-        ensures history { Continues R.Wire R.Rig Q.Rule K.WordKind (model self.now) (asks-lamp station) (model self.now) }
+        ensures answer { as_lit result ≡ reply (meant R.Wire R.Rig.own Q.Rule K.WordKind (model self.now)) (model self.now).state (asks-lamp station) }
+        ensures answered { Answers R.Wire R.Rig.own Q.Rule K.WordKind (model self.now) (asks-lamp station) (as_lit result) }
+        ensures history { Continues R.Wire R.Rig.own Q.Rule K.WordKind (model self.now) (asks-lamp station) (model self.now) }
     {
         parts_agree(&self.rig, &self.rule, &self.rest);
         self.cue_lamp(station)
@@ -159,7 +159,7 @@ impl<R: Rig, Q: Rule, K: WordKind> Hall<R, Q, K> {
 
     // The stations agree after whatever calls led to this hall. It changes and answers nothing.
     pub fn agrees(&self)
-        ensures { Agreed R.Wire R.Rig Q.Rule K.WordKind (model self.now) }
+        ensures { Agreed R.Wire R.Rig.own Q.Rule K.WordKind (model self.now) }
     {
         parts_agree(&self.rig, &self.rule, &self.rest);
     }
@@ -178,7 +178,7 @@ impl<R: Rig, Q: Rule, K: WordKind> Hall<R, Q, K> {
 
     // What the call does, by the state that the hall is in.
     fn judge(&mut self, call: Call<K>, sheet: &mut [u16]) -> Result<Answer<K>, Refusal>
-        ensures { (model self.new, result, sheet.new) ≡ outcome R.Wire R.Rig Q.Rule K.WordKind (model self.old) call sheet.old }
+        ensures { (model self.new, result, sheet.new) ≡ outcome R.Wire R.Rig.own Q.Rule K.WordKind (model self.old) call sheet.old }
     {
         match (call, self.stage) {
             (Call::Open { take, caller, word }, Stage::Idle) => self.begin(take, caller, word),
@@ -199,7 +199,7 @@ impl<R: Rig, Q: Rule, K: WordKind> Hall<R, Q, K> {
 
     // The word that a station holds, once the cue is decided.
     fn decided_word(&self, station: u16) -> Result<K, Refusal>
-        ensures { (model self.now, as_word result) ≡ when_decided R.Wire R.Rig Q.Rule K.WordKind (model self.now) (model self.now).state.stage (reading R.Wire R.Rig Q.Rule K.WordKind (model self.now) station) }
+        ensures { (model self.now, as_word result) ≡ when_decided R.Wire R.Rig.own Q.Rule K.WordKind (model self.now) (model self.now).state.stage (reading R.Wire R.Rig.own Q.Rule K.WordKind (model self.now) station) }
     {
         match self.stage {
             Stage::Decided => self.word_of(station),
@@ -209,7 +209,7 @@ impl<R: Rig, Q: Rule, K: WordKind> Hall<R, Q, K> {
 
     // 1 if the lamp of a station is lit, else 0, while a cue is on.
     fn cue_lamp(&self, station: u16) -> Result<u16, Refusal>
-        ensures { (model self.now, as_lit result) ≡ unless_idle R.Wire R.Rig Q.Rule K.WordKind (model self.now) (model self.now).state.stage (lighting R.Wire R.Rig Q.Rule K.WordKind (model self.now) station) }
+        ensures { (model self.now, as_lit result) ≡ unless_idle R.Wire R.Rig.own Q.Rule K.WordKind (model self.now) (model self.now).state.stage (lighting R.Wire R.Rig.own Q.Rule K.WordKind (model self.now) station) }
     {
         match self.stage {
             Stage::Idle => Err(Refusal::Idle),
@@ -219,7 +219,7 @@ impl<R: Rig, Q: Rule, K: WordKind> Hall<R, Q, K> {
 
     // Starts a cue on an idle hall.
     fn begin(&mut self, take: u16, caller: u16, word: K) -> Result<Answer<K>, Refusal>
-        ensures { (model self.new, result) ≡ opening R.Wire R.Rig Q.Rule K.WordKind (model self.old) take caller word }
+        ensures { (model self.new, result) ≡ opening R.Wire R.Rig.own Q.Rule K.WordKind (model self.old) take caller word }
     {
         let kings = kings_of(&self.rule, caller)?;
         self.held = first_codes(
@@ -240,7 +240,7 @@ impl<R: Rig, Q: Rule, K: WordKind> Hall<R, Q, K> {
 
     // Ends a cue.
     fn end(&mut self) -> Answer<K>
-        ensures { (model self.new, Ok result) ≡ striking R.Wire R.Rig Q.Rule K.WordKind (model self.old) }
+        ensures { (model self.new, Ok result) ≡ striking R.Wire R.Rig.own Q.Rule K.WordKind (model self.old) }
     {
         self.stage = Stage::Idle;
         self.held = [VOID; 16];
@@ -250,7 +250,7 @@ impl<R: Rig, Q: Rule, K: WordKind> Hall<R, Q, K> {
 
     // Makes a station broken, if the broken set can then fail.
     fn mark_broken(&mut self, station: u16) -> Result<Answer<K>, Refusal>
-        ensures { (model self.new, result) ≡ marking R.Wire R.Rig Q.Rule K.WordKind (model self.old) station }
+        ensures { (model self.new, result) ≡ marking R.Wire R.Rig.own Q.Rule K.WordKind (model self.old) station }
     {
         if station >= u16::from(self.rule.n()) {
             return Err(Refusal::NoSuchStation);
@@ -265,7 +265,7 @@ impl<R: Rig, Q: Rule, K: WordKind> Hall<R, Q, K> {
 
     // Makes a station good.
     fn mark_good(&mut self, station: u16) -> Result<Answer<K>, Refusal>
-        ensures { (model self.new, result) ≡ clearing R.Wire R.Rig Q.Rule K.WordKind (model self.old) station }
+        ensures { (model self.new, result) ≡ clearing R.Wire R.Rig.own Q.Rule K.WordKind (model self.old) station }
     {
         if station >= u16::from(self.rule.n()) {
             return Err(Refusal::NoSuchStation);
@@ -276,7 +276,7 @@ impl<R: Rig, Q: Rule, K: WordKind> Hall<R, Q, K> {
 
     // The word that a station holds.
     fn word_of(&self, station: u16) -> Result<K, Refusal>
-        ensures { (model self.now, as_word result) ≡ reading R.Wire R.Rig Q.Rule K.WordKind (model self.now) station }
+        ensures { (model self.now, as_word result) ≡ reading R.Wire R.Rig.own Q.Rule K.WordKind (model self.now) station }
     {
         if station >= u16::from(self.rule.n()) {
             return Err(Refusal::NoSuchStation);
@@ -289,7 +289,7 @@ impl<R: Rig, Q: Rule, K: WordKind> Hall<R, Q, K> {
 
     // 1 if the lamp of a station is lit, else 0.
     fn lamp_of(&self, station: u16) -> Result<u16, Refusal>
-        ensures { (model self.now, as_lit result) ≡ lighting R.Wire R.Rig Q.Rule K.WordKind (model self.now) station }
+        ensures { (model self.now, as_lit result) ≡ lighting R.Wire R.Rig.own Q.Rule K.WordKind (model self.now) station }
     {
         if station >= u16::from(self.rule.n()) {
             return Err(Refusal::NoSuchStation);
@@ -303,7 +303,7 @@ impl<R: Rig, Q: Rule, K: WordKind> Hall<R, Q, K> {
 
     // Runs the next round of the cue that is on.
     fn run_round(&mut self, sheet: &mut [u16]) -> Result<Answer<K>, Refusal>
-        ensures { (model self.new, result, sheet.new) ≡ rounding R.Wire R.Rig Q.Rule K.WordKind (model self.old) (model self.old).state.stage sheet.old }
+        ensures { (model self.new, result, sheet.new) ≡ rounding R.Wire R.Rig.own Q.Rule K.WordKind (model self.old) (model self.old).state.stage sheet.old }
     {
         match self.stage {
             Stage::Running {
@@ -326,7 +326,7 @@ impl<R: Rig, Q: Rule, K: WordKind> Hall<R, Q, K> {
         sheet: &mut [u16],
     ) -> Result<Answer<K>, Refusal>
         requires { (kings ≤ 15) × (rounds ≤ 3 * kings) }
-        ensures { (model self.new, result, sheet.new) ≡ advancing R.Wire R.Rig Q.Rule K.WordKind (model self.old) take caller kings rounds sheet.old }
+        ensures { (model self.new, result, sheet.new) ≡ advancing R.Wire R.Rig.own Q.Rule K.WordKind (model self.old) take caller kings rounds sheet.old }
     {
         let round = rounds + 1;
         let start = Start {

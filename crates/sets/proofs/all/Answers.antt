@@ -6,5 +6,5 @@ use Rattle.sets.proofs.all.Goals as goal
 
 pub returns : goal.returns
 returns c =
-    mask_is 16 c.low-bits.result (λ j. ltb j c.args.n) (omega arith)
-    (λ j l. ap (λ x. has x j) c.low-bits.ensures ∙ has-low_bits c.args.n j l)
+    mask_is 16 c.low_bits.result (λ j. ltb j c.args.n) (omega arith)
+    (λ j l. ap (λ x. has x j) c.low_bits.ensures ∙ has-low_bits c.args.n j l)

@@ -11,4 +11,4 @@ returns-then-n-ge16 c =
 
 pub returns-else-n-ge16 : goal.returns-else-n-ge16
 unfolding among
-returns-else-n-ge16 c = c.is-below.ensures
+returns-else-n-ge16 c = c.is_below.ensures

@@ -1,5 +1,5 @@
-use Rattle.std.proofs.Common.{◌≡◌, false, sym, ap, ◌∙◌, ap₂, arith}
-use Rattle.sets.specs.Sets.{has, mask_of, inside, whole}
+use Rattle.std.proofs.Common.{sym, ◌∙◌, ap₂, arith}
+use Rattle.sets.specs.Sets.{inside}
 use Rattle.sets.proofs.Tests.{whole-inside, whole-over}
 use Rattle.std.proofs.lemmas.Bool.{lt-leb}
 use Rattle.sets.proofs.make_up.Goals as goal

@@ -5,8 +5,8 @@ use Rattle.console_hall.proofs.entries.entries.Goals as goal
 
 pub loop-i-preserved : goal.loop-i-preserved
 loop-i-preserved c =
-    let items = c.in-ok-push.ensures.items in
+    let items = c.in_ok-push.ensures.items in
     let more = map-range_with_len_more (entry_at c.args.bytes.now) 0 c.loop-i.i c.loop-i.i (omega arith) in
-    let entry = c.entry-at.ensures in
+    let entry = c.entry_at.ensures in
     let inv = c.loop-i.invariant in
     cc

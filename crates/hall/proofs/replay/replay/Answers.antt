@@ -10,7 +10,7 @@ use Rattle.hall.proofs.replay.replay.Goals as goal
 
 pub loop-call-init : goal.loop-call-init
 loop-call-init g c =
-    let made = c.in-ok-steps.ensures in (
+    let made = c.in_ok-steps.ensures in (
       λ rig rule rest had.
           subst (λ (z : List (Step g.row.K.Denot)). PlayedTo g.R.Wire g.R.Rig g.Q.Rule g.K.WordKind rig rule rest c.args.sheet.now [] (model c.new-hall.result) z c.args.sheet.now)
           (sym made.items) (none-played g.R.Wire g.R.Rig g.Q.Rule g.K.WordKind rig rule rest c.args.sheet.now (model c.new-hall.result) had),
@@ -42,4 +42,4 @@ returns g c =
     let came =
     subst (λ (z : List (Call g.row.K.Denot)). PlayedTo g.R.Wire g.R.Rig g.Q.Rule g.K.WordKind c.args.rig c.args.rule c.args.rest c.args.sheet.now (reverse z) (model c.loop-call.hall) (vec_items c.loop-call.steps) c.loop-call.sheet)
     whole (c.loop-call.invariant.0 c.args.rig c.args.rule c.args.rest c.new-hall.ensures.made) in
-    record { had = came.had; steps = came.steps; sheet = came.sheet; agree = λ later before e. c.parts-agree.ensures before }
+    record { had = came.had; steps = came.steps; sheet = came.sheet; agree = λ later before e. c.parts_agree.ensures before }

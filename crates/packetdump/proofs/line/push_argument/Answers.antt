@@ -7,4 +7,4 @@ use Rattle.packetdump.proofs.line.push_argument.Goals as goal
 pub returns : goal.returns
 returns c =
     let shown = value_bytes (value c.args.argument) in
-    made_then _ (string_bytes c.args.line.now) _ _ (32 ∷ []) shown (32 ∷ shown) c.in-ok-push-ascii.ensures c.push-value.ensures refl
+    made_then _ (string_bytes c.args.line.now) _ _ (32 ∷ []) shown (32 ∷ shown) c.in_ok-push_ascii.ensures c.push_value.ensures refl

@@ -8,5 +8,5 @@ pub returns : goal.returns
 returns c =
     let was = string_bytes c.args.line.now in
     let shown = flat_map hex_byte c.args.b.now in
-    let head = appended was _ _ (48 ∷ []) (120 ∷ []) (48 ∷ 120 ∷ []) c.in-ok-push-ascii.ensures c.in-ok-push-ascii-2.ensures refl in
-    made_then _ was _ _ (48 ∷ 120 ∷ []) shown (48 ∷ 120 ∷ shown) head c.push-digits.ensures refl
+    let head = appended was _ _ (48 ∷ []) (120 ∷ []) (48 ∷ 120 ∷ []) c.in_ok-push_ascii.ensures c.in_ok-push_ascii-2.ensures refl in
+    made_then _ was _ _ (48 ∷ 120 ∷ []) shown (48 ∷ 120 ∷ shown) head c.push_digits.ensures refl

@@ -5,4 +5,4 @@ use Rattle.packetdump.proofs.Shown.{made_push}
 use Rattle.packetdump.proofs.line.push_number.Goals as goal
 
 pub returns : goal.returns
-returns c = made_push _ _ _ _ _ c.push-str.ensures.bytes (c.as-str.ensures.value ∙ c.in-ok-digits.ensures.ok ∙ ap signed_decimal (to_z-of_z w32 c.args.n c.ranges.n))
+returns c = made_push _ _ _ _ _ c.push_str.ensures.bytes (c.as_str.ensures.value ∙ c.in_ok-digits.ensures.ok ∙ ap signed_decimal (to_z-of_z w32 c.args.n c.ranges.n))

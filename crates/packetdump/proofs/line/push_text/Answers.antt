@@ -8,5 +8,5 @@ pub returns : goal.returns
 returns c =
     let was = string_bytes c.args.line.now in
     let shown = flat_map (char_bytes 32) c.args.s.now in
-    let head = appended was _ _ (34 ∷ []) shown (34 ∷ shown) c.in-ok-push-ascii.ensures c.in-ok-push-chars.ensures refl in
-    made_then _ was _ _ (34 ∷ shown) (34 ∷ []) (34 ∷ (shown ++ (34 ∷ []))) head c.push-ascii-2.ensures refl
+    let head = appended was _ _ (34 ∷ []) shown (34 ∷ shown) c.in_ok-push_ascii.ensures c.in_ok-push_chars.ensures refl in
+    made_then _ was _ _ (34 ∷ shown) (34 ∷ []) (34 ∷ (shown ++ (34 ∷ []))) head c.push_ascii-2.ensures refl

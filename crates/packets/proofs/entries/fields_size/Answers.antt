@@ -9,30 +9,30 @@ use Rattle.packets.proofs.Encoded.{fields-length}
 use Rattle.packets.proofs.Lists.{fields_at, joined-map}
 use Rattle.packets.proofs.entries.fields_size.Goals as goal
 
-pub returns-in-err-size : goal.returns-in-err-size
-returns-in-err-size c =
-    rw c.from-residual.ensures
+pub returns-in_err-size : goal.returns-in_err-size
+returns-in_err-size c =
+    rw c.from_residual.ensures
     (λ placed bs h l.
     let at = fields_at (entry_value c.args.lent.now) c.args.entries.now bs c.loop-e.e-index (Number (pos 0)) c.loop-e-test.true h in
-    c.in-err-size.ensures (All-get_or (Inside c.args.lent.now) c.args.entries.now c.loop-e.e-index (Number (pos 0)) c.loop-e-test.true placed) at.0 at.1.0 at.1.1)
+    c.in_err-size.ensures (All-get_or (Inside c.args.lent.now) c.args.entries.now c.loop-e.e-index (Number (pos 0)) c.loop-e-test.true placed) at.0 at.1.0 at.1.1)
 
-pub returns-in-err-total : goal.returns-in-err-total
-returns-in-err-total c =
-    rw c.from-residual-in-err-total.ensures
+pub returns-in_err-total : goal.returns-in_err-total
+returns-in_err-total c =
+    rw c.from_residual-in_err-total.ensures
     (λ placed bs h l.
     let f = entry_bytes c.args.lent.now in
     let le = joined_le (entry_bytes c.args.lent.now) (c.loop-e.e-index + 1) c.args.entries.now in
     let more = ap length (put-more (flat_map f) f (joined_snoc f) c.args.entries.now c.loop-e.e-index (Number (pos 0)) c.loop-e-test.true) ∙ length-append (flat_map f (take c.loop-e.e-index c.args.entries.now)) _ in
-    let got = c.in-ok-size.ensures in
+    let got = c.in_ok-size.ensures in
     let all = fields-length _ bs h ∙ ap length (joined-map c.args.lent.now c.args.entries.now) in
-    omega (arith, c.loop-e.invariant.0, c.in-err-total.ensures))
+    omega (arith, c.loop-e.invariant.0, c.in_err-total.ensures))
 
 pub loop-e-preserved : goal.loop-e-preserved
 loop-e-preserved c =
     let f = entry_bytes c.args.lent.now in
     let more = ap length (put-more (flat_map f) f (joined_snoc f) c.args.entries.now c.loop-e.e-index (Number (pos 0)) c.loop-e-test.true) ∙ length-append (flat_map f (take c.loop-e.e-index c.args.entries.now)) _ in
-    let got = c.in-ok-size.ensures in
-    (omega (arith, c.loop-e.invariant.0, c.in-ok-total.ensures), All-more (Sendable c.args.lent.now) c.args.entries.now c.loop-e.e-index (Number (pos 0)) c.loop-e-test.true c.loop-e.invariant.1 (got.0, got.2))
+    let got = c.in_ok-size.ensures in
+    (omega (arith, c.loop-e.invariant.0, c.in_ok-total.ensures), All-more (Sendable c.args.lent.now) c.args.entries.now c.loop-e.e-index (Number (pos 0)) c.loop-e-test.true c.loop-e.invariant.1 (got.0, got.2))
 
 pub returns : goal.returns
 returns c =

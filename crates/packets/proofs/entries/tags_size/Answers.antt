@@ -6,4 +6,4 @@ use Rattle.packets.proofs.entries.tags_size.Goals as goal
 
 pub returns : goal.returns
 returns c =
-    omega (arith, c.filled-len.ensures, c.in-ok-letters.ensures, length-text (44 ∷ map letter_of c.args.entries.now), length-map c.args.entries.now letter_of)
+    omega (arith, c.filled_len.ensures, c.in_ok-letters.ensures, length-text (44 ∷ map letter_of c.args.entries.now), length-map c.args.entries.now letter_of)

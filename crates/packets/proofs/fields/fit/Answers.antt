@@ -18,4 +18,4 @@ loop-letter-preserved c =
     same_step _ _ _ _ _ got.0 got.1 _ _ (subst (λ x. Same c.args.tags.now c.args.fields.now x c.loop-letter.rest.now) here c.loop-letter.invariant)
 
 pub returns : goal.returns
-returns c = fit_end _ _ _ _ _ c.loop-letter.invariant (drop_all c.loop-letter.letter-index c.args.tags.now (omega arith)) c.is-empty.ensures
+returns c = fit_end _ _ _ _ _ c.loop-letter.invariant (drop_all c.loop-letter.letter-index c.args.tags.now (omega arith)) c.is_empty.ensures

@@ -7,5 +7,5 @@ use Rattle.packets.proofs.fields.read_number.Goals as goal
 pub returns-in-len4-up : goal.returns-in-len4-up
 returns-in-len4-up c =
     let l : 4 ≤ length c.args.bytes.now = search rules in
-    let f : SFits w32 c.int32.result = record { sfits = c.int32.type-inv } in
-    simp (to_z-of_z, take_rest) (number-made c.int32.result c.args.bytes.now l (λ i. (c.type-inv.bytes i).fits) f c.int32.ensures)
+    let f : SFits w32 c.int32.result = record { sfits = c.int32.type_inv } in
+    simp (to_z-of_z, take_rest) (number-made c.int32.result c.args.bytes.now l (λ i. (c.type_inv.bytes i).fits) f c.int32.ensures)

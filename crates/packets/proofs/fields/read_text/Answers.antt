@@ -1,5 +1,5 @@
 use Rattle.packets.proofs.Texts.{text_unended}
 use Rattle.packets.proofs.fields.read_text.Goals as goal
 
-pub returns-in-err-zero-at : goal.returns-in-err-zero-at
-returns-in-err-zero-at c = rw c.from-residual.ensures (text_unended _ c.in-err-zero-at.ensures)
+pub returns-in_err-zero_at : goal.returns-in_err-zero_at
+returns-in_err-zero_at c = rw c.from_residual.ensures (text_unended _ c.in_err-zero_at.ensures)

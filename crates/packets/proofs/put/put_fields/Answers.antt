@@ -7,8 +7,8 @@ use Rattle.packets.specs.Write.{entry_bytes, Inside, over}
 use Rattle.packets.proofs.Puts.{over_none, put-more, loop_put, loop_end, joined_le, joined_snoc}
 use Rattle.packets.proofs.put.put_fields.Goals as goal
 
-pub put-entry-end-requires : goal.put-entry-end-requires
-put-entry-end-requires c =
+pub put_entry-end-requires : goal.put_entry-end-requires
+put_entry-end-requires c =
     let f = entry_bytes c.args.lent.now in
     let end = c.loop-e.invariant.1 in
     let le = joined_le (entry_bytes c.args.lent.now) (c.loop-e.e-index + 1) c.args.entries.now in
@@ -23,8 +23,8 @@ loop-e-preserved c =
     let f = entry_bytes c.args.lent.now in
     let end = c.loop-e.invariant.1 in
     let le = joined_le (entry_bytes c.args.lent.now) (c.loop-e.e-index + 1) c.args.entries.now in (
-      loop_put (flat_map f) f (joined_snoc f) _ _ _ c.loop-e-test.true _ _ _ _ _ c.loop-e.invariant.0 end c.put-entry-end.ensures.after (omega arith),
-      loop_end (flat_map f) f (joined_snoc f) c.args.entries.now _ _ c.loop-e-test.true _ _ _ end c.put-entry-end.ensures.end,
+      loop_put (flat_map f) f (joined_snoc f) _ _ _ c.loop-e-test.true _ _ _ _ _ c.loop-e.invariant.0 end c.put_entry-end.ensures.after (omega arith),
+      loop_end (flat_map f) f (joined_snoc f) c.args.entries.now _ _ c.loop-e-test.true _ _ _ end c.put_entry-end.ensures.end,
     )
 
 pub returns : goal.returns

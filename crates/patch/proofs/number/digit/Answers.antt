@@ -5,7 +5,7 @@ use Rattle.patch.proofs.number.digit.Goals as goal
 
 pub returns-then-i-lt16 : goal.returns-then-i-lt16
 unfolding box_of
-returns-then-i-lt16 c = c.hex-digit.ensures
+returns-then-i-lt16 c = c.hex_digit.ensures
 
 pub returns-else-i-lt16 : goal.returns-else-i-lt16
 returns-else-i-lt16 c = box_high c.args.number c.args.i (omega arith) c.if-i-lt16.false

@@ -7,8 +7,8 @@ pub returns : goal.returns
 returns g c =
     let k = c.args.key in
     let heard = g.R.Rig.heard c.args.rig.now in
-    let is : ((c.pair-alike.result && c.pair-alike-2.result) && c.pair-alike-3.result) ≡ alike k c.args.broken (heard k c.args.code c.args.broken) =
-    ap₂ (λ x y. x && y) (ap₂ (λ x y. x && y) c.pair-alike.ensures c.pair-alike-2.ensures) c.pair-alike-3.ensures
+    let is : ((c.pair_alike.result && c.pair_alike-2.result) && c.pair_alike-3.result) ≡ alike k c.args.broken (heard k c.args.code c.args.broken) =
+    ap₂ (λ x y. x && y) (ap₂ (λ x y. x && y) c.pair_alike.ensures c.pair_alike-2.ensures) c.pair_alike-3.ensures
     ∙ ap (alike k c.args.broken) c.trio-x.ensures in
     record {
       value = is;

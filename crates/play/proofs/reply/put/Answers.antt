@@ -8,7 +8,7 @@ use Rattle.play.proofs.reply.put.Goals as goal
 pub unreachable-requires : goal.unreachable-requires
 unreachable-requires c =
     let n : length (take (length c.args.out.now - 4) (drop 4 c.args.out.now)) ≡ length c.args.out.now - 4 = ap length (take_rest c.args.out.now 4) ∙ length-drop 4 c.args.out.now in
-    never_refused _ _ _ _ _ c.in-default.field-0 c.in-default.ensures.made c.requires.placed c.requires.encodes (omega arith)
+    never_refused _ _ _ _ _ c.in_default.field-0 c.in_default.ensures.made c.requires.placed c.requires.encodes (omega arith)
 
 pub returns : goal.returns
 returns c =
@@ -18,6 +18,6 @@ returns c =
     let n = framed-length m in
     record {
       len = omega arith;
-      bytes = framed_is m _ _ _ _ (omega arith) (c.copy-from-slice.ensures.after ∙ c.size-bytes.ensures) size got.bytes;
+      bytes = framed_is m _ _ _ _ (omega arith) (c.copy_from_slice.ensures.after ∙ c.size_bytes.ensures) size got.bytes;
       means = record { encoding = c.requires.encodes; only = λ k l. encoding-same k m _ l c.requires.encodes };
     }

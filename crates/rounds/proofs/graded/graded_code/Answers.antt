@@ -7,5 +7,5 @@ use Rattle.rounds.proofs.graded.graded_code.Goals as goal
 
 pub returns : goal.returns
 returns g c =
-    c.or_rest_lem.ensures
-    ∙ or_rest_lem (rule_of g.Q.Rule c.args.rule.now) (is_word g.K.WordKind.word) c.args.rest (votes_on c.args.sheet.now) c.args.p c.smallest-backed.result c.smallest-backed.ensures
+    c.or_rest.ensures
+    ∙ or_rest_lem (rule_of g.Q.Rule c.args.rule.now) (is_word g.K.WordKind.word) c.args.rest (votes_on c.args.sheet.now) c.args.p c.smallest_backed.result c.smallest_backed.ensures

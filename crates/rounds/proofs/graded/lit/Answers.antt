@@ -4,7 +4,7 @@ use Rattle.rounds.specs.Sheets.{votes_on}
 use Rattle.rounds.specs.Tallies.{lit_with}
 use Rattle.rounds.proofs.Scans.{mask_in, mask_out}
 use Rattle.rounds.proofs.graded.lit.Goals as goal
-use Rattle.rounds.proofs.graded.lit.Goals.{then-is-lit, else-is-lit}
+use Rattle.rounds.proofs.graded.lit.Goals.{then-is_lit, else-is_lit}
 
 pub loop-p-init : goal.loop-p-init
 unfolding mask_of
@@ -14,9 +14,9 @@ pub loop-p-preserved : goal.loop-p-preserved
 loop-p-preserved g c =
     let t = lit_with (g.Q.Rule.fails c.args.rule.now) c.args.n (votes_on c.args.sheet.now) c.args.held.now in
     let p = c.loop-p.p in
-    elim c.if-is-lit.branch [
-      | then-is-lit w ↦ mask_in t p c.loop-p.set _ c.loop-p.invariant (omega arith) (sym w.if-is-lit.ensures) (w.set-is ∙ w.with-set.ensures)
-      | else-is-lit w ↦ mask_out t p c.loop-p.set _ c.loop-p.invariant (sym w.if-is-lit.ensures) w.set-is
+    elim c.if-is_lit.branch [
+      | then-is_lit w ↦ mask_in t p c.loop-p.set _ c.loop-p.invariant (omega arith) (sym w.if-is_lit.ensures) (w.set-is ∙ w.with-set.ensures)
+      | else-is_lit w ↦ mask_out t p c.loop-p.set _ c.loop-p.invariant (sym w.if-is_lit.ensures) w.set-is
     ]
 
 pub returns : goal.returns

@@ -19,7 +19,7 @@ loop-k-preserved g c =
     graded-more R (record { sized = met.sized rule; own = met.own rule; part = met.part rule; single = met.single rule; apart = met.apart rule }) v c.args.p (is_word g.K.WordKind.word)
     (small-words _ _ g.met.K.WordKind.sized g.met.K.WordKind.full)
     c.loop-k.k c.loop-k.best _ (omega (arith, c.requires.2)) c.loop-k.invariant
-    (lower_is R v c.args.p (is_word g.K.WordKind.word) c.args.n c.requires.2 c.loop-k.k c.loop-k.best _ c.vote-at.result c.vote-at.ensures c.lower-best.ensures)
+    (lower_is R v c.args.p (is_word g.K.WordKind.word) c.args.n c.requires.2 c.loop-k.k c.loop-k.best _ c.vote_at.result c.vote_at.ensures c.lower-best.ensures)
 
 pub returns : goal.returns
 returns g c =

@@ -21,7 +21,7 @@ returns-in-Caller g c =
     let leaves : RoundKind → Outcome = λ k. outcome_of k R e (g.K.WordKind.code c.args.rest) c.args.start.now.caller c.args.start.now.lamps in
     let writes : RoundKind → List ℕ = λ k. round_sheet k R.n e c.args.sheet.now in
     record {
-      value = after_caller R e (g.K.WordKind.code c.args.rest) c.args.start.now.caller c.args.start.now.lamps c.caller-round-held.result (c.caller-round-held.ensures (g.R.Rig.heard c.args.rig.now))
+      value = after_caller R e (g.K.WordKind.code c.args.rest) c.args.start.now.caller c.args.start.now.lamps c.caller_round-held.result (c.caller_round-held.ensures (g.R.Rig.heard c.args.rig.now))
           ∙ ap leaves (sym c.in-Caller.is);
       after = ap writes (sym c.in-Caller.is);
     }
@@ -36,8 +36,8 @@ returns-in-King g c =
     let leaves : RoundKind → Outcome = λ k. outcome_of k R e (g.K.WordKind.code c.args.rest) c.args.start.now.caller c.args.start.now.lamps in
     let writes : RoundKind → List ℕ = λ k. round_sheet k R.n e c.args.sheet.now in
     record {
-      value = after-king R e rest start.caller start.lamps c.in-King.number c.king-round-held.result
-          (c.king-round-held.ensures (g.R.Rig.heard c.args.rig.now) ∙ ap (λ (k : ℕ). sixteen R.n (king_held e rest (has start.lamps) k)) c.king-of.ensures)
+      value = after-king R e rest start.caller start.lamps c.in-King.number c.king_round-held.result
+          (c.king_round-held.ensures (g.R.Rig.heard c.args.rig.now) ∙ ap (λ (k : ℕ). sixteen R.n (king_held e rest (has start.lamps) k)) c.king_of.ensures)
           ∙ ap leaves (sym c.in-King.is);
       after = ap writes (sym c.in-King.is);
     }
@@ -49,13 +49,13 @@ returns-in-Weak g c =
     let R = rule_of g.Q.Rule rule in
     let e = setting_from (rig_of g.R.Wire g.R.Rig c.args.rig.now) (is_word g.K.WordKind.word) c.args.start.now in
     let old = c.args.sheet.now in
-    let sheet = c.vote-all.new.sheet in
-    let voted : sheet ≡ vote_sheet R.n e old = c.vote-all.ensures ∙ ap (λ (n : ℕ). vote_sheet n e old) c.n-n.ensures in
+    let sheet = c.vote_all.new.sheet in
+    let voted : sheet ≡ vote_sheet R.n e old = c.vote_all.ensures ∙ ap (λ (n : ℕ). vote_sheet n e old) c.n-n.ensures in
     let leaves : RoundKind → Outcome = λ k. outcome_of k R e (g.K.WordKind.code c.args.rest) c.args.start.now.caller c.args.start.now.lamps in
     let writes : RoundKind → List ℕ = λ k. round_sheet k R.n e c.args.sheet.now in
     record {
-      value = after-weak R e (g.K.WordKind.code c.args.rest) c.args.start.now.caller c.args.start.now.lamps (g.met.Q.Rule.sized rule).1 old sheet voted c.weak-codes-held.result
-          (c.weak-codes-held.ensures ∙ ap (λ (n : ℕ). sixteen n (weak_held R e.words (votes_on sheet))) c.n-n.ensures)
+      value = after-weak R e (g.K.WordKind.code c.args.rest) c.args.start.now.caller c.args.start.now.lamps (g.met.Q.Rule.sized rule).1 old sheet voted c.weak_codes-held.result
+          (c.weak_codes-held.ensures ∙ ap (λ (n : ℕ). sixteen n (weak_held R e.words (votes_on sheet))) c.n-n.ensures)
           ∙ ap leaves (sym c.in-Weak.is);
       after = voted ∙ ap writes (sym c.in-Weak.is);
     }
@@ -67,8 +67,8 @@ returns-in-Graded g c =
     let R = rule_of g.Q.Rule rule in
     let e = setting_from (rig_of g.R.Wire g.R.Rig c.args.rig.now) (is_word g.K.WordKind.word) c.args.start.now in
     let old = c.args.sheet.now in
-    let sheet = c.vote-all-in-Graded.new.sheet in
-    let voted : sheet ≡ vote_sheet R.n e old = c.vote-all-in-Graded.ensures ∙ ap (λ (n : ℕ). vote_sheet n e old) c.n-n.ensures in
+    let sheet = c.vote_all-in-Graded.new.sheet in
+    let voted : sheet ≡ vote_sheet R.n e old = c.vote_all-in-Graded.ensures ∙ ap (λ (n : ℕ). vote_sheet n e old) c.n-n.ensures in
     let leaves : RoundKind → Outcome = λ k. outcome_of k R e (g.K.WordKind.code c.args.rest) c.args.start.now.caller c.args.start.now.lamps in
     let writes : RoundKind → List ℕ = λ k. round_sheet k R.n e c.args.sheet.now in
     record {

@@ -14,7 +14,7 @@ loop-a-init g c = first (three c.args.n) low _ c.blank.new.sheet 0 (λ k _. omeg
 pub loop-a-preserved : goal.loop-a-preserved
 loop-a-preserved g c =
     let e = setting_from (rig_of g.R.Wire g.R.Rig c.args.rig.now) (is_word g.K.WordKind.word) c.args.start.now in
-    turn (three c.args.n) low (vote_entry c.args.n e) _ c.loop-a.sheet c.blank.new.sheet c.loop-a.a c.loop-a.invariant c.vote-with-lowest.ensures
+    turn (three c.args.n) low (vote_entry c.args.n e) _ c.loop-a.sheet c.blank.new.sheet c.loop-a.a c.loop-a.invariant c.vote_with_lowest.ensures
 
 pub returns : goal.returns
 returns g c =

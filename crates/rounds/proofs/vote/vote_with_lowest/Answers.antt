@@ -14,7 +14,7 @@ loop-b-init g c = first (with_lowest c.args.n c.args.a) mid _ c.args.sheet.now _
 pub loop-b-preserved : goal.loop-b-preserved
 loop-b-preserved g c =
     let e = setting_from (rig_of g.R.Wire g.R.Rig c.args.rig.now) (is_word g.K.WordKind.word) c.args.start.now in
-    turn (with_lowest c.args.n c.args.a) mid (vote_entry c.args.n e) _ c.loop-b.sheet c.args.sheet.now c.loop-b.b c.loop-b.invariant c.vote-with-pair.ensures
+    turn (with_lowest c.args.n c.args.a) mid (vote_entry c.args.n e) _ c.loop-b.sheet c.args.sheet.now c.loop-b.b c.loop-b.invariant c.vote_with_pair.ensures
 
 pub returns : goal.returns
 returns g c =

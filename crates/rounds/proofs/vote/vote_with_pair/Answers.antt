@@ -19,7 +19,7 @@ loop-c-preserved g c =
     let m = c.loop-c.c in
     let e = setting_from (rig_of g.R.Wire g.R.Rig c.args.rig.now) (is_word g.K.WordKind.word) c.args.start.now in
     turn (with_pair n a b) high (vote_entry n e) _ c.loop-c.sheet c.args.sheet.now m c.loop-c.invariant
-    (subst (λ (s : List ℕ). Wrote (with_trio n a b m) (vote_entry n e) s c.loop-c.sheet) (sym c.put-trio.ensures)
+    (subst (λ (s : List ℕ). Wrote (with_trio n a b m) (vote_entry n e) s c.loop-c.sheet) (sym c.put_trio.ensures)
     (trio_wrote n e a b m c.requires.2 (omega arith) (omega arith) c.requires.1 c.loop-c.sheet (omega arith)))
 
 pub returns : goal.returns

@@ -11,7 +11,7 @@ loop-q-preserved c =
     let s = c.loop-q.row in
     let k = c.loop-q.q in
     let h : k < length s = omega arith in
-    (λ j lt. rw c.row-code.ensures (fill_by_more f s k 0 h c.loop-q.invariant.0 j lt), length-set s k _ ∙ c.loop-q.invariant.1)
+    (λ j lt. rw c.row_code.ensures (fill_by_more f s k 0 h c.loop-q.invariant.0 j lt), length-set s k _ ∙ c.loop-q.invariant.1)
 
 pub returns : goal.returns
 returns c = λ k lt. c.loop-q.invariant.0 k (omega arith)

@@ -8,16 +8,16 @@ use Rattle.agreement.specs.Sheets.{sixteen}
 use Rattle.rounds.specs.Sheets.{votes_on}
 use Rattle.rounds.proofs.weak.weak.Goals as goal
 
-pub weak-codes-requires : goal.weak-codes-requires
-weak-codes-requires g c =
-    (ltb-false (length c.args.sheet.now) 4096 (sym c.if-is-short.ensures), omega (arith, c.n.ensures, (g.met.Q.Rule.sized c.args.rule.now).1), c.n.ensures)
+pub weak_codes-requires : goal.weak_codes-requires
+weak_codes-requires g c =
+    (ltb-false (length c.args.sheet.now) 4096 (sym c.if-is_short.ensures), omega (arith, c.n.ensures, (g.met.Q.Rule.sized c.args.rule.now).1), c.n.ensures)
 
-pub returns-then-is-short : goal.returns-then-is-short
-returns-then-is-short g c = sym (cond-false _ _ _ (lt-leb 4096 (length c.args.sheet.now) (ltb-true _ _ (sym c.if-is-short.ensures))))
+pub returns-then-is_short : goal.returns-then-is_short
+returns-then-is_short g c = sym (cond-false _ _ _ (lt-leb 4096 (length c.args.sheet.now) (ltb-true _ _ (sym c.if-is_short.ensures))))
 
 pub returns : goal.returns
 returns g c =
     let f = weak_held (rule_of g.Q.Rule c.args.rule.now) (is_word g.K.WordKind.word) (votes_on c.args.sheet.now) in
     let done : List ℕ → Result (List ℕ) Refusal = λ x. Ok x in
-    ap done (c.weak-codes.ensures ∙ ap (λ (n : ℕ). sixteen n f) c.n.ensures)
-    ∙ sym (cond-true _ _ _ (le-leb 4096 (length c.args.sheet.now) (ltb-false _ _ (sym c.if-is-short.ensures))))
+    ap done (c.weak_codes.ensures ∙ ap (λ (n : ℕ). sixteen n f) c.n.ensures)
+    ∙ sym (cond-true _ _ _ (le-leb 4096 (length c.args.sheet.now) (ltb-false _ _ (sym c.if-is_short.ensures))))

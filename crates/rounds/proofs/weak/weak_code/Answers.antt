@@ -20,14 +20,14 @@ loop-q-preserved g c =
     let v = votes_on c.args.sheet.now in
     let words = is_word g.K.WordKind.word in
     let p = c.args.p in
-    let row = c.row-codes-row.result in
+    let row = c.row_codes-row.result in
     let w = get_or row c.loop-q.q 0 in
     let best = c.loop-q.best in
     let same = c.requires.2 in
     weak_more R (record { sized = met.sized rule; own = met.own rule; part = met.part rule; single = met.single rule; apart = met.apart rule }) v p (omega (arith, c.requires.3, same)) words
     (small-words _ _ g.met.K.WordKind.sized g.met.K.WordKind.full)
     c.loop-q.q best _ row (omega arith)
-    (subst (λ (n : ℕ). (q : ℕ) → q < n → get_or row q 0 ≡ row_code n v p q) same c.row-codes-row.ensures)
+    (subst (λ (n : ℕ). (q : ℕ) → q < n → get_or row q 0 ≡ row_code n v p q) same c.row_codes-row.ensures)
     c.loop-q.invariant
     (subst (λ (n : ℕ). c.lower-best.result ≡ cond (ltb w best) (cond (words w && g.Q.Rule.fails rule (mask_of n (left_out row p w))) w best) best) same c.lower-best.ensures)
 

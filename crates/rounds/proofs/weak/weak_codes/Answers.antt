@@ -14,7 +14,7 @@ loop-p-preserved g c =
     let s = c.loop-p.held in
     let k = c.loop-p.p in
     let h : k < length s = omega arith in (
-      λ j lt. rw c.weak-code.ensures (fill_by_more f s k 0 h c.loop-p.invariant.0 j lt),
+      λ j lt. rw c.weak_code.ensures (fill_by_more f s k 0 h c.loop-p.invariant.0 j lt),
       drop-set-lt c.args.n s k _ (omega arith) ∙ c.loop-p.invariant.1,
       length-set s k _ ∙ c.loop-p.invariant.2,
     )

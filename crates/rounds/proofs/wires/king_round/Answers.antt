@@ -6,10 +6,10 @@ use Rattle.agreement.specs.Sheets.{sixteen}
 use Rattle.rounds.specs.Settings.{lines, setting_from}
 use Rattle.rounds.proofs.wires.king_round.Goals as goal
 
-pub wired-codes-requires : goal.wired-codes-requires
-wired-codes-requires g c = omega (arith, c.n.ensures, (g.met.Q.Rule.sized c.args.rule.now).1)
+pub wired_codes-requires : goal.wired_codes-requires
+wired_codes-requires g c = omega (arith, c.n.ensures, (g.met.Q.Rule.sized c.args.rule.now).1)
 
 pub returns : goal.returns
 returns g c = λ trio.
     let f : ℕ → ℕ → List ℕ = λ n rest. sixteen n (king_held (setting_from (lines (g.R.Wire.carried c.args.rig.now) trio) (is_word g.K.WordKind.word) c.args.start.now) rest (has c.args.start.now.lamps) c.args.king) in
-    c.wired-codes.ensures trio ∙ ap₂ f c.n.ensures c.encode.ensures
+    c.wired_codes.ensures trio ∙ ap₂ f c.n.ensures c.encode.ensures

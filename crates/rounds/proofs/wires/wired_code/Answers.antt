@@ -9,4 +9,4 @@ returns-then-keeps g c = λ trio. c.code.ensures ∙ sym (cond-true _ _ _ (sym c
 
 pub returns-else-keeps : goal.returns-else-keeps
 unfolding king_held
-returns-else-keeps g c = λ trio. c.wired-to.ensures trio ∙ sym (cond-false _ _ _ (sym c.if-keeps.ensures))
+returns-else-keeps g c = λ trio. c.wired_to.ensures trio ∙ sym (cond-false _ _ _ (sym c.if-keeps.ensures))

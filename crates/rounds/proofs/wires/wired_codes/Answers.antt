@@ -15,7 +15,7 @@ loop-p-preserved g c =
     let s = c.loop-p.held in
     let k = c.loop-p.p in
     let h : k < length s = omega arith in (
-      λ trio j lt. rw (c.wired-code.ensures trio) (fill_by_more (f trio) s k 0 h (c.loop-p.invariant.0 trio) j lt),
+      λ trio j lt. rw (c.wired_code.ensures trio) (fill_by_more (f trio) s k 0 h (c.loop-p.invariant.0 trio) j lt),
       drop-set-lt c.args.n s k _ (omega arith) ∙ c.loop-p.invariant.1,
       length-set s k _ ∙ c.loop-p.invariant.2,
     )

@@ -1,4 +1,4 @@
-use Rattle.std.proofs.Common.{◌+◌, ◌||◌, drop, sym, ap, ◌∙◌, arith}
+use Rattle.std.proofs.Common.{◌+◌, ◌||◌, drop, sym, ap, ◌∙◌}
 use Rattle.rules.specs.Group.{lies}
 use Rattle.rules.specs.GroupLaws.{lies_from_place, lies-at-end}
 use Rattle.rules.proofs.group.lies_within.Goals as goal

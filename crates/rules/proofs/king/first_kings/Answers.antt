@@ -1,4 +1,4 @@
-use Rattle.std.proofs.Common.{◌≡◌, ℕ, ◌+◌, ◌<◌, ◌≤◌, true, false, not, ◌||◌, eqb, sym, refl, ap, ◌∙◌, subst, ap₂, arith, below_more}
+use Rattle.std.proofs.Common.{◌≡◌, ℕ, ◌+◌, ◌<◌, true, false, ◌||◌, eqb, sym, ap, ◌∙◌, subst, ap₂, arith, below_more}
 use Rattle.std.proofs.lemmas.Bool.{not-true, not-false}
 use Rattle.sets.specs.Sets.{has, mask_of}
 use Rattle.rules.specs.declared.king.Kings.{Kings}
@@ -10,8 +10,8 @@ use Rattle.rules.proofs.king.first_kings.Goals.{then-i-caller, else-i-caller}
 pub loop-set-init : goal.loop-set-init
 loop-set-init g c = (omega arith, sym (others-none c.args.caller), first-none (g.R.Rule.stations c.args.rule.now) c.args.caller, λ j h. absurd (omega arith))
 
-pub overflow-add-count : goal.overflow-add-count
-overflow-add-count g c =
+pub overflow_add-count : goal.overflow_add-count
+overflow_add-count g c =
     let n = g.R.Rule.stations c.args.rule.now in
     let few : others_below c.args.caller c.loop-set.i < n = others-few c.args.caller c.loop-set.i n c.loop-set.invariant.0 c.requires in
     omega (arith, c.loop-set.invariant.1, (g.met.R.Rule.sized c.args.rule.now).1)
@@ -22,7 +22,7 @@ loop-set-smaller g c =
     let met = g.met.R.Rule in
     let more : c.loop-set.i < g.R.Rule.stations r =
     goes_on (g.R.Rule.stations r) (g.R.Rule.fails r) (met.sized r) (met.apart r) c.args.caller c.requires c.loop-set.i c.loop-set.count c.loop-set.set
-    c.loop-set.invariant.0 c.loop-set.invariant.1 c.loop-set.invariant.2 (not-false _ (sym c.if-cannot-fail.ensures)) in
+    c.loop-set.invariant.0 c.loop-set.invariant.1 c.loop-set.invariant.2 (not-false _ (sym c.if-cannot_fail.ensures)) in
     omega arith
 
 pub loop-set-preserved : goal.loop-set-preserved
@@ -33,7 +33,7 @@ loop-set-preserved g c =
     let caller = c.args.caller in
     let i = c.loop-set.i in
     let k = c.loop-set.count in
-    let can : g.R.Rule.fails r (with_caller caller c.loop-set.set) ≡ true = not-false _ (sym c.if-cannot-fail.ensures) in
+    let can : g.R.Rule.fails r (with_caller caller c.loop-set.set) ≡ true = not-false _ (sym c.if-cannot_fail.ensures) in
     let more : i < n = goes_on n (g.R.Rule.fails r) (met.sized r) (met.apart r) caller c.requires i k c.loop-set.set c.loop-set.invariant.0 c.loop-set.invariant.1 c.loop-set.invariant.2 can in
     elim c.if-i-caller.branch [
       | then-i-caller w ↦ (
@@ -61,7 +61,7 @@ returns g c =
     let caller = c.args.caller in
     let k = c.loop-set.count in
     let few : k < n = subst (λ x. x < n) (sym c.loop-set.invariant.1) (others-few caller c.loop-set.i n c.loop-set.invariant.0 c.requires) in
-    let done : fails (with_caller caller (first_others n caller k)) ≡ false = ap (λ x. fails (with_caller caller x)) (sym c.loop-set.invariant.2) ∙ not-true _ (sym c.if-cannot-fail.ensures) in
+    let done : fails (with_caller caller (first_others n caller k)) ≡ false = ap (λ x. fails (with_caller caller x)) (sym c.loop-set.invariant.2) ∙ not-true _ (sym c.if-cannot_fail.ensures) in
     let count : k ≡ king_count n fails caller = sym (count-is n fails (met.sized r) (met.apart r) caller c.requires k few c.loop-set.invariant.3 done) in
     let kings : ℕ → ℕ → Kings = λ s m. record { caller = caller; set = s; count = m } in
     record {

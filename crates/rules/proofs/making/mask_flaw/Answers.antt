@@ -1,4 +1,4 @@
-use Rattle.std.proofs.Common.{◌≡◌, ◌+◌, ◌^◌, ◌≤◌, sym, arith}
+use Rattle.std.proofs.Common.{◌+◌, ◌^◌, ◌≤◌, sym}
 use Rattle.std.proofs.lemmas.Bool.{ltb-true, ltb-false}
 use Rattle.sets.specs.Sets.{members}
 use Rattle.sets.proofs.Bounds.{among-lt, among-over}
@@ -10,9 +10,9 @@ returns-then-not-among c = λ o.
     let l : 2 ^ c.args.n ≤ c.args.mask = among-over c.args.n c.args.mask (sym c.if-not-among.ensures) in
     ((o, l), λ m. not_stranger c.args.n c.requires.1 c.args.masks.now m.0 m.1 c.args.mask o l)
 
-pub returns-then-not-leaves-two : goal.returns-then-not-leaves-two
-returns-then-not-leaves-two c = λ o.
-    let l : c.args.n ≤ members c.args.mask + 1 = ltb-false _ _ (sym c.if-not-leaves-two.ensures) in
+pub returns-then-not-leaves_two : goal.returns-then-not-leaves_two
+returns-then-not-leaves_two c = λ o.
+    let l : c.args.n ≤ members c.args.mask + 1 = ltb-false _ _ (sym c.if-not-leaves_two.ensures) in
     ((o, l), λ m. not-one_missing c.args.n c.requires.1 c.args.masks.now m.0 m.1 c.args.mask o l)
 
 pub returns-in-Some : goal.returns-in-Some
@@ -22,4 +22,4 @@ returns-in-Some c = λ o.
 
 pub returns-in-None : goal.returns-in-None
 returns-in-None c =
-    (among-lt c.args.n c.args.mask (sym c.if-not-among.ensures), ltb-true _ _ (sym c.if-not-leaves-two.ensures), c.in-None.ensures)
+    (among-lt c.args.n c.args.mask (sym c.if-not-among.ensures), ltb-true _ _ (sym c.if-not-leaves_two.ensures), c.in-None.ensures)

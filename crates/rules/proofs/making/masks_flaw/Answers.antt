@@ -4,7 +4,7 @@ use Rattle.rules.specs.GroupLaws.{sound_below, sound_apart}
 use Rattle.rules.proofs.making.masks_flaw.Goals as goal
 
 pub loop-m-preserved : goal.loop-m-preserved
-loop-m-preserved c = below_more _ _ c.loop-m.invariant c.in-default.ensures
+loop-m-preserved c = below_more _ _ c.loop-m.invariant c.in_default.ensures
 
 pub returns : goal.returns
 returns c =

@@ -6,11 +6,11 @@ use Rattle.console_hall.specs.Making.{wanted}
 use Rattle.console_hall.specs.Serving.{hall_in, Made}
 use Rattle.console_hall.proofs.console.Console.make.Goals as goal
 
-pub returns-in-ok-list : goal.returns-in-ok-list
-returns-in-ok-list c =
+pub returns-in_ok-list : goal.returns-in_ok-list
+returns-in_ok-list c =
     let lawful = c.in-Ok.ensures in
     subst (λ (z : Console). Made (wanted c.args.making) (hall_in z) (Some (model c.new-in-Ok.result)) Done)
-    (sym c.in-default.is)
+    (sym c.in_default.is)
     (inr (
       lawful.0,
       refl,
@@ -19,9 +19,9 @@ returns-in-ok-list c =
         (
           refl,
           record {
-            rig = record { list = c.in-ok-list.list };
+            rig = record { list = c.in_ok-list.list };
             rule = c.in-Ok.rule;
-            entries = c.in-ok-list.ensures;
+            entries = c.in_ok-list.ensures;
             stations = lawful.1;
             broken = lawful.2;
             had = c.new-in-Ok.ensures.made;

@@ -4,6 +4,6 @@ use Rattle.hall.proofs.parts.Hall.advance.Goals as goal
 
 pub returns : goal.returns
 returns g c =
-    let run = c.in-ok-outcome.ensures in
+    let run = c.in_ok-outcome.ensures in
     advance_is g.R.Wire g.R.Rig g.Q.Rule g.K.WordKind (model c.args.self.now) c.args.take c.args.caller c.args.kings
-    c.args.rounds c.args.sheet.now _ _ _ _ c.of.ensures run.value run.after c.stage-after-self.ensures
+    c.args.rounds c.args.sheet.now _ _ _ _ c.of.ensures run.value run.after c.stage_after-self.ensures

@@ -14,5 +14,5 @@ returns g c =
     record {
       does = record { hall = hall; answer = answer; sheet = ap (λ (o : Place g.row.R.Denot g.row.Q.Denot g.row.K.Denot). o.2) e };
       answered = answers g.R.Wire g.R.Rig g.Q.Rule g.K.WordKind x _ _ answer;
-      history = continues g.R.Wire g.R.Rig g.Q.Rule g.K.WordKind x _ _ c.parts-agree.ensures hall;
+      history = continues g.R.Wire g.R.Rig g.Q.Rule g.K.WordKind x _ _ c.parts_agree.ensures hall;
     }

@@ -9,10 +9,10 @@ use Rattle.hall.proofs.parts.Hall.lamp.Goals as goal
 pub returns : goal.returns
 returns g c =
     let x = model c.args.self.now in
-    let e = ap (λ (o : Outcome g.row.R.Denot g.row.Q.Denot g.row.K.Denot). untouched o []) c.cue-lamp.ensures ∙ outcome-is g.R.Wire g.R.Rig g.Q.Rule g.K.WordKind x [] (Lamp c.args.station) in
+    let e = ap (λ (o : Outcome g.row.R.Denot g.row.Q.Denot g.row.K.Denot). untouched o []) c.cue_lamp.ensures ∙ outcome-is g.R.Wire g.R.Rig g.Q.Rule g.K.WordKind x [] (Lamp c.args.station) in
     let answer = ap (λ (o : Place g.row.R.Denot g.row.Q.Denot g.row.K.Denot). o.1) e in
     record {
       answer = answer;
       answered = answers g.R.Wire g.R.Rig g.Q.Rule g.K.WordKind x _ _ answer;
-      history = continues g.R.Wire g.R.Rig g.Q.Rule g.K.WordKind x _ _ c.parts-agree.ensures (ap (λ (o : Place g.row.R.Denot g.row.Q.Denot g.row.K.Denot). o.0) e);
+      history = continues g.R.Wire g.R.Rig g.Q.Rule g.K.WordKind x _ _ c.parts_agree.ensures (ap (λ (o : Place g.row.R.Denot g.row.Q.Denot g.row.K.Denot). o.0) e);
     }

@@ -8,5 +8,5 @@ returns g c =
     let e = c.idle.ensures in
     record {
       made = record { of_rig = ap (λ x. x.rig) e; of_rule = ap (λ x. x.rule) e; of_rest = ap (λ x. x.rest) e; stands = ap (λ x. x.state) e };
-      agreed = c.parts-agree.ensures [];
+      agreed = c.parts_agree.ensures [];
     }

@@ -19,7 +19,7 @@ returns-in-Some c =
     let some : 0 < length c.args.self.now.tags.now = search rules in
     let e = first_rest c.args.self.now.tags.now 0 some in
     let got = c.in-Some.ensures in
-    let made = c.with-left.ensures in
+    let made = c.with_left.ensures in
     record {
       value = λ vs h.
           let l = holds_less _ _ _ _ _ got.0 got.1 vs (subst (λ x. Holds x c.args.self.now.fields.now vs) e h) in

@@ -8,14 +8,14 @@ use Rattle.patch.proofs.number.Patch.new.Goals as goal
 pub loop-i-init : goal.loop-i-init
 loop-i-init c = (once-none c.args.number, gather_none (λ b j. eqb (box_of c.args.number j) b))
 
-pub returns-in-default : goal.returns-in-default
-returns-in-default c =
+pub returns-in_default : goal.returns-in_default
+returns-in_default c =
     let p = c.args.number in
     let i = c.loop-i.i in
     let b = c.digit.result in
     let seen = c.loop-i.seen in
     let next = mask_of 16 (λ j. has seen j || eqb b j) in
-    let twice = not-joined (has seen b) next (sym c.join.ensures ∙ c.in-default.is) in
+    let twice = not-joined (has seen b) next (sym c.join.ensures ∙ c.in_default.is) in
     record { made = (refl, before-twice p i (omega arith) (sym (seen_has p i b seen c.digit.ensures c.loop-i.invariant.1) ∙ twice)) }
 
 pub loop-i-preserved : goal.loop-i-preserved
@@ -30,8 +30,8 @@ loop-i-preserved c =
       r.1 ∙ gather_more i (λ b j. eqb (box_of p j) b) b seen (λ c'. ap (λ x. eqb x c') c.digit.ensures) c.loop-i.invariant.1,
     )
 
-pub invariant-of-result : goal.invariant-of-result
-invariant-of-result c = (once-all c.args.number c.loop-i.i (omega (arith, c.loop-i-test.false)) c.loop-i.invariant.0, tt)
+pub invariant_of-result : goal.invariant_of-result
+invariant_of-result c = record { once = once-all c.args.number c.loop-i.i (omega (arith, c.loop-i-test.false)) c.loop-i.invariant.0 }
 
 pub returns : goal.returns
 returns c = record {

@@ -8,5 +8,5 @@ returns-then-n-eq0 c =
 
 pub returns : goal.returns
 returns c =
-    entry_some (vec_items c.args.self.now.list) c.len-n.result c.args.place c.entry-index.result c.index.result.now
-    (c.len-n.ensures ∙ c.args.self.now.list.ok.0) c.if-n-eq0.false c.entry-index.ensures c.index.ensures
+    entry_some (vec_items c.args.self.now.list) c.len-n.result c.args.place c.entry_index.result c.index.result.now
+    (c.len-n.ensures ∙ c.args.self.now.list.ok.0) c.if-n-eq0.false c.entry_index.ensures c.index.ensures

@@ -2,5 +2,10 @@ use Rattle.std.proofs.Common.{arith}
 use Rattle.rules.specs.GroupLaws.{no_masks_apart}
 use Rattle.rules.proofs.group.GroupRule.new.Goals as goal
 
-pub invariant-of-result : goal.invariant-of-result
-invariant-of-result c = (omega arith, ((omega arith, omega arith), ((λ k h. absurd (omega arith)), (no_masks_apart _ (omega arith) (omega arith), tt))))
+pub invariant_of-result : goal.invariant_of-result
+invariant_of-result c = record {
+  few = omega arith;
+  sized = (omega arith, omega arith);
+  below = λ k h. absurd (omega arith);
+  apart = no_masks_apart _ (omega arith) (omega arith);
+}

@@ -9,4 +9,4 @@ unfolding scene_at
 returns c =
     let t : ltb c.args.number 1024 ≡ true = search rules in
     let l = ltb-true c.args.number 1024 t in
-    ap Some (same_parts _ (scene_at c.args.number) (c.bank-of.ensures ∙ omega arith) c.slot-of.ensures) ∙ sym (cond-true _ _ _ t)
+    ap Some (same_parts _ (scene_at c.args.number) (c.bank_of.ensures ∙ omega arith) c.slot_of.ensures) ∙ sym (cond-true _ _ _ t)
