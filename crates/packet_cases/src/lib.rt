@@ -16,14 +16,14 @@ mod tests {
     #[test]
     fn reads_one_argument_at_a_time(rt: HostRuntime) -> Result<(), Fail> {
         let mut m = read_message(&WORKED)?;
-        assert!(rt; m.address() == b"/abc");
-        assert!(rt; m.tags() == b"bsi");
+        assert!(rt; m.address() == b"/abc".as_slice());
+        assert!(rt; m.tags() == b"bsi".as_slice());
         match m.next() {
-            Some(Argument::Blob(b)) => assert!(rt; b == [1, 2, 3]),
+            Some(Argument::Blob(b)) => assert!(rt; b == [1, 2, 3].as_slice()),
             _ => return Err(Fail::new("no blob")),
         }
         match m.next() {
-            Some(Argument::Text(s)) => assert!(rt; s == b"x"),
+            Some(Argument::Text(s)) => assert!(rt; s == b"x".as_slice()),
             _ => return Err(Fail::new("no text")),
         }
         match m.next() {
@@ -32,7 +32,7 @@ mod tests {
         }
         assert!(rt; m.next().is_none());
         assert!(rt; m.tags().is_empty());
-        assert!(rt; m.address() == b"/abc");
+        assert!(rt; m.address() == b"/abc".as_slice());
         Ok(())
     }
 
@@ -46,7 +46,7 @@ mod tests {
         ];
         let n = write_message(b"/abc", &entries, &[0x78, 1, 2, 3], &mut out)?;
         assert_eq!(rt; n, 32);
-        assert!(rt; &out[0..32] == WORKED);
+        assert!(rt; &out[0..32] == WORKED.as_slice());
         assert!(rt; out[32] == 9 && out[33] == 9);
         Ok(())
     }
