@@ -1,6 +1,5 @@
 -- What a round's code gives is the round of the definitions.
-use Rattle.std.proofs.Common.{◌≡◌, ℕ, suc, ◌+◌, ◌*◌, Bool, true, false, cond, ltb, leb, List, length, get_or, Ok, Err, Result, sym, refl, ap, ◌∙◌, add-one, arith}
-use Rattle.refusals.specs.declared.Refusal.{Refusal}
+use Rattle.std.proofs.Common.{◌≡◌, ℕ, suc, ◌+◌, ◌*◌, Bool, true, false, cond, ltb, leb, List, length, Ok, Err, ap, ◌∙◌, add-one, arith}
 use Rattle.refusals.specs.declared.Refusal.TheVariants.{SheetTooShort}
 use Rattle.rigs.specs.declared.Wire as wires
 use Rattle.rigs.specs.declared.Rig as rigs
@@ -14,7 +13,7 @@ use Rattle.agreement.specs.declared.stage.Answer.TheVariants.{Done}
 use Rattle.agreement.specs.Made.{rule_of, rig_of}
 use Rattle.agreement.specs.Rounds.{kind_of}
 use Rattle.agreement.specs.Sheets.{round_sheet}
-use Rattle.agreement.specs.Calls.{State, holds, stage_after, setting_of, advanced, sheet_left}
+use Rattle.agreement.specs.Calls.{holds, stage_after, setting_of, advanced, sheet_left}
 use Rattle.rounds.specs.declared.start.Start.{Start}
 use Rattle.rounds.specs.declared.outcome.Outcome.{Outcome}
 use Rattle.rounds.specs.Settings.{setting_from}

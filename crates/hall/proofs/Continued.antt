@@ -1,5 +1,5 @@
 -- A call as the definitions have it continues every history that led to the hall.
-use Rattle.std.proofs.Common.{◌≡◌, ℕ, List, ◌∷◌, Result, sym, refl, ap, ◌∙◌, subst}
+use Rattle.std.proofs.Common.{◌≡◌, List, ◌∷◌, Result, ap, ◌∙◌, subst}
 use Rattle.refusals.specs.declared.Refusal.{Refusal}
 use Rattle.rigs.specs.declared.Wire as wires
 use Rattle.rigs.specs.declared.Rig as rigs
@@ -10,7 +10,7 @@ use Rattle.agreement.specs.Made.{meaning_of}
 use Rattle.agreement.specs.Calls.{Call, State, after, next, reply}
 use Rattle.agreement.specs.Agreement.{Agrees}
 use Rattle.hall.specs.Halls.{Model, meant, put}
-use Rattle.hall.specs.Histories.{Had, Answers, Continues, Agreed}
+use Rattle.hall.specs.Histories.{Answers, Continues, Agreed}
 
 module _ {R Q K : Type 0} (v : wires.Ghosts R) (g : rigs.Ghosts R) (q : rules.Ghosts Q) (k : kinds.Ghosts K) where
   same_next : (r r' : R) (u u' : Q) (t t' : K) (s s' : State) (c : Call K) → r ≡ r' → u ≡ u' → t ≡ t' → s ≡ s'

@@ -15,7 +15,7 @@ use Rattle.hall.specs.declared.call.Call.{Call}
 use Rattle.hall.specs.declared.replay.Step.{Step}
 use Rattle.hall.specs.Halls.{Model, meant, asked}
 use Rattle.hall.specs.Histories.{Had, Does, Answers, Continues}
-use Rattle.hall.specs.Replays.{standing, Played, further, played}
+use Rattle.hall.specs.Replays.{standing, played}
 
 module _ {R Q K : Type 0} (v : wires.Ghosts R) (g : rigs.Ghosts R) (q : rules.Ghosts Q) (k : kinds.Ghosts K) (rig : R) (rule : Q) (rest : K) (given : List ℕ) where
   -- the calls, the newest first, were played on a hall of these parts

@@ -1,5 +1,5 @@
 -- The outcome of a call, by the state of the hall, is what the definitions say.
-use Rattle.std.proofs.Common.{◌≡◌, ℕ, Bool, true, false, cond, not, ltb, leb, List, length, get_or, is_some, Some, None, Ok, Err, Option, Result, sym, refl}
+use Rattle.std.proofs.Common.{◌≡◌, ℕ, Bool, true, false, cond, not, ltb, leb, List, length, get_or, is_some, Some, None, Ok, Err, Option, refl}
 use Rattle.refusals.specs.declared.Refusal.{Refusal}
 use Rattle.refusals.specs.declared.Refusal.TheVariants.{NoSuchStation, NotIdle, NotRunning, Idle as HallIdle, NotDecided, TooManyBroken, SheetTooShort, HoldsVoid}
 use Rattle.sets.specs.Sets.{has}
@@ -16,7 +16,7 @@ use Rattle.agreement.specs.Calls.{State, opened, blank, with_broken, marked, cle
 use Rattle.hall.specs.declared.call.Call.{Call}
 use Rattle.hall.specs.declared.call.Call.TheVariants.{Open, Round, Strike, Mark, Clear, Read, Lamp}
 use Rattle.hall.specs.Halls.{Model, meant, put, asked}
-use Rattle.hall.specs.Outcomes.{Outcome, Place, found, untouched, at_station, opening, striking, marking, clearing, reading, lighting, advancing, rounding, when_idle, unless_idle, when_decided, outcome}
+use Rattle.hall.specs.Outcomes.{Place, found, untouched, rounding, when_idle, unless_idle, when_decided, outcome}
 
 module _ {R Q K : Type 0} (v : wires.Ghosts R) (g : rigs.Ghosts R) (q : rules.Ghosts Q) (k : kinds.Ghosts K) (x : Model R Q K) (sheet : List ℕ) where
   -- the hall, the answer and the sheet where a call has this refusal or none, and in the latter case leaves S and answers a

@@ -1,5 +1,5 @@
 -- What every stage keeps, whatever the rule is: a cue of sixteen stations has at most 15 kings, and while it runs at most three rounds for each were run.
-use Rattle.std.specs.Prelude.{ℕ, ◌*◌, Bool, true, ◌&&◌, nat_le}
+use Rattle.std.specs.Prelude.{◌*◌, Bool, true, ◌&&◌, nat_le}
 use Rattle.agreement.specs.declared.stage.Stage.{Stage}
 use Rattle.agreement.specs.declared.stage.Stage.TheVariants.{Idle, Running, Decided}
 

@@ -6,7 +6,7 @@ use Rattle.rigs.specs.declared.Rig as rigs
 use Rattle.rules.specs.declared.Rule as rules
 use Rattle.words.specs.declared.WordKind as kinds
 use Rattle.agreement.specs.declared.stage.Answer.{Answer}
-use Rattle.agreement.specs.declared.stage.Answer.TheVariants.{Done, Word, Lit}
+use Rattle.agreement.specs.declared.stage.Answer.TheVariants.{Word, Lit}
 use Rattle.agreement.specs.Meanings.{Meaning}
 use Rattle.agreement.specs.Made.{meaning_of}
 use Rattle.agreement.specs.Calls.{State}

@@ -1,5 +1,5 @@
 -- What each call leaves and answers, by the state that the hall is in: the steps of the code, which are shown to be the calls of the definitions.
-use Rattle.std.specs.Prelude.{ℕ, suc, Bool, cond, not, ◌&&◌, ◌||◌, List, length, replicate, Some, None, Ok, Err, Option, Result, ◌==◌, nat_le, nat_lt, slice_index}
+use Rattle.std.specs.Prelude.{ℕ, cond, not, ◌&&◌, ◌||◌, List, length, replicate, Some, None, Ok, Err, Option, Result, ◌==◌, nat_le, nat_lt, slice_index}
 use Rattle.refusals.specs.declared.Refusal.{Refusal}
 use Rattle.refusals.specs.declared.Refusal.TheVariants.{NoSuchStation, NotIdle, NotRunning, Idle as HallIdle, NotDecided, TooManyBroken, SheetTooShort, HoldsVoid}
 use Rattle.sets.specs.Sets.{has, mask_of}
@@ -14,7 +14,7 @@ use Rattle.agreement.specs.declared.stage.Stage.TheVariants.{Idle, Running, Deci
 use Rattle.agreement.specs.declared.stage.Answer.{Answer}
 use Rattle.agreement.specs.declared.stage.Answer.TheVariants.{Done, Word, Lit}
 use Rattle.agreement.specs.Sheets.{sixteen}
-use Rattle.agreement.specs.Calls.{State, advanced, sheet_left}
+use Rattle.agreement.specs.Calls.{advanced, sheet_left}
 use Rattle.hall.specs.declared.call.Call.{Call}
 use Rattle.hall.specs.declared.call.Call.TheVariants.{Open, Round, Strike, Mark, Clear, Read, Lamp}
 use Rattle.hall.specs.Halls.{Model, meant, put}

@@ -3,15 +3,12 @@ ghost use Rattle.std.specs.Prelude.{◌≡◌, Bool, true};
 ghost use Rattle.hall.specs.Bounds.{bounded};
 
 use agreement::stage::Stage;
-use rigs::Rig;
-use rules::Rule;
-use words::WordKind;
 
 pub mod calls;
 
 // A hall: its rig, its rule and its rest word; whether it is idle, running or decided; the set of broken stations, the code that each station holds, and the set of the stations whose lamps are lit.
 #[derive(Drop)]
-pub struct Hall<R: Rig, Q: Rule, K: WordKind> {
+pub struct Hall<R, Q, K> {
     rig: R,
     rule: Q,
     rest: K,

@@ -1,8 +1,6 @@
 use Rattle.std.proofs.Common.{◌≡◌, ◌≤◌, [], reverse, length, take, vec_items, vec_len, vec_capacity}
-use Rattle.agreement.specs.Made.{meaning_of}
 use Rattle.hall.specs.Halls.{model}
 use Rattle.hall.specs.Histories.{Had}
-use Rattle.hall.specs.Replays.{played}
 use Rattle.hall.proofs.Played.{PlayedTo}
 use Rattle.hall.proofs.replay.replay.Given as goal
 

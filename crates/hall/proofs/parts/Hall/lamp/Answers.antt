@@ -1,4 +1,4 @@
-use Rattle.std.proofs.Common.{[], sym, ap, ◌∙◌}
+use Rattle.std.proofs.Common.{[], ap, ◌∙◌}
 use Rattle.hall.specs.declared.call.Call.TheVariants.{Lamp}
 use Rattle.hall.specs.Halls.{model}
 use Rattle.hall.specs.Outcomes.{Outcome, Place, untouched}
