@@ -2,7 +2,7 @@
 use Rattle.std.proofs.Common.{◌≡◌, ℕ, ◌+◌, cond, eqb, List, get_or, Err, Option, Result, sym, refl, ap, ◌∙◌}
 use Rattle.refusals.specs.declared.Refusal.{Refusal}
 use Rattle.refusals.specs.declared.Refusal.TheVariants.{BrokenLayout, UnknownAddress}
-use Rattle.packets.specs.Osc.{Content, Value, Encoding, Means}
+use Rattle.packets.specs.Osc.{Content, Encoding, Means}
 use Rattle.hall.specs.declared.call.Call.{Call}
 use Rattle.play.specs.declared.name.Name.{Name}
 use Rattle.play.specs.declared.name.Name.TheVariants.{Open, Round, Strike, Mark, Clear, Read, Lamp}

@@ -1,7 +1,5 @@
-use Rattle.std.proofs.Common.{◌≡◌, ℕ, ◌^◌, ◌<◌, List, [], ◌∷◌, length, ℤ, pos, codes, sym, ap, ◌∙◌, subst, arith, w32, to_z, rules}
-use mir.Val.{hbits}
+use Rattle.std.proofs.Common.{◌≡◌, ℕ, ◌<◌, List, [], ◌∷◌, ℤ, pos, codes, sym, ap, ◌∙◌, subst, arith, w32, to_z, rules}
 use Rattle.std.proofs.lemmas.Int.{to_z_pos}
-use Rattle.refusals.specs.Refusals.{number_of}
 use Rattle.packets.specs.Osc.{Content, number}
 use Rattle.play.specs.Replies.{content_in, Framed}
 use Rattle.play.proofs.Written.{small_ok, small-no, small_word, small-lamp}
