@@ -1,5 +1,5 @@
 -- The parts of the console's hall: what their types mean.
-use Rattle.std.specs.Prelude.{ℕ, vec_items}
+use Rattle.std.specs.Prelude.{vec_items}
 use Rattle.rigs.specs.declared.Wire as wires
 use Rattle.rigs.specs.declared.Rig as rigs
 use Rattle.rules.specs.declared.Rule as rules

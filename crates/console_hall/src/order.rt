@@ -26,7 +26,7 @@ pub enum Order<'a> {
 fn is_make(address: &[u8]) -> bool
     ensures { Decides result (address.now ≡ make_address) }
 {
-    address == b"/hall/make"
+    address == b"/hall/make".as_slice()
 }
 
 // The making that a message asks for.

@@ -1,5 +1,5 @@
 -- A numeral with one digit more.
-use Rattle.std.proofs.Common.{◌≡◌, ℕ, suc, ◌+◌, ◌-◌, ◌*◌, ◌≤◌, List, get_or, refl, ap, subst, arith}
+use Rattle.std.proofs.Common.{◌≡◌, ℕ, suc, ◌+◌, ◌-◌, ◌*◌, ◌≤◌, List, get_or, refl, ap, arith}
 use Rattle.scan.specs.Numbers.{digit_value, numeral}
 
 -- the numeral from i to j, and the digit at j

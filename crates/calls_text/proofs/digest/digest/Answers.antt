@@ -1,4 +1,4 @@
-use Rattle.std.proofs.Common.{◌≡◌, ◌+◌, ◌<◌, length, get_or, take, fold, refl, arith, rules}
+use Rattle.std.proofs.Common.{◌≡◌, ◌+◌, take, fold, refl}
 use Rattle.std.proofs.lemmas.List.Sums.{fold_more}
 use Rattle.std.proofs.lemmas.List.{take_all}
 use Rattle.calls_text.specs.Digests.{digest_of, mixed_entry}

@@ -1,5 +1,4 @@
-use Rattle.std.proofs.Common.{◌≡◌, ◌+◌, ◌-◌, ◌*◌, ◌≤◌, get_or, refl, arith, rules}
-use Rattle.scan.specs.Numbers.{digit_value, numeral}
+use Rattle.std.proofs.Common.{◌≡◌, ◌+◌, ◌*◌, refl, arith, rules}
 use Rattle.scan.proofs.Numerals.{numeral-more, numeral-none}
 use Rattle.scan.proofs.scanner.Scanner.digits.Goals as goal
 
