@@ -1,12 +1,12 @@
 -- How strings, numbers and blobs are told from their bytes. Assumes nothing.
 use Rattle.std.proofs.Common.{◌≡◌, ℕ, ◌+◌, ◌≤◌, List, [], ◌∷◌, ◌++◌, length, take, drop, sym, refl, ap, ◌∙◌, subst, arith}
 use Rattle.std.proofs.lemmas.List.{length-append, length-drop, take-append-drop, drop-drop, take_at, drop_at, length-take-le, append_assoc}
-use Rattle.std.specs.List.{AllByRecursion as All}
+use Rattle.std.specs.List.{AllByRecursion}
 use Rattle.packets.specs.Osc.{Filled, FillByte}
 use Rattle.packets.specs.Encode.{fill_len}
 
 -- any bytes may fill
-pub any_fills : (bs : List ℕ) → All FillByte bs
+pub any_fills : (bs : List ℕ) → AllByRecursion FillByte bs
 any_fills [] = tt
 any_fills (b ∷ bs) = (tt, any_fills bs)
 

@@ -1,6 +1,6 @@
 -- What the writer makes is an encoding, and how long every encoding is. Assumes nothing.
 use Rattle.std.proofs.Common.{◌≡◌, ℕ, zero, suc, ◌+◌, ◌^◌, ◌<◌, ◌≤◌, List, [], ◌∷◌, ◌++◌, map, length, get_or, replicate, refl, ap, arith}
-use Rattle.std.specs.List.{flat_map, AllByRecursion as All}
+use Rattle.std.specs.List.{flat_map, AllByRecursion}
 use Rattle.std.proofs.lemmas.List.{length-append, length-replicate, append_assoc, length_push}
 use Rattle.packets.specs.Osc.{Value, number, text, blob, tag, word, TextByte, Plain, Content, Filled, TextOf, BlobOf, Field, Fields, Encoding}
 use Rattle.packets.specs.Encode.{fill_len, filled_bytes, text_bytes, blob_bytes, field_bytes, encode}
@@ -44,7 +44,7 @@ fields-length [] bs f = ap length f
 fields-length (v ∷ vs) bs f =
     omega (arith, field_length v bs f.0 f.1.0, fields-length vs f.0 f.1.1, length-append (field_bytes v) (flat_map field_bytes vs))
 
-pub fields-encode : (vs : List Value) → All Encodable vs → Fields vs (flat_map field_bytes vs)
+pub fields-encode : (vs : List Value) → AllByRecursion Encodable vs → Fields vs (flat_map field_bytes vs)
 fields-encode [] a = refl
 fields-encode (v ∷ vs) a = (flat_map field_bytes vs, (a.0 (flat_map field_bytes vs), fields-encode vs a.1))
 
@@ -71,7 +71,7 @@ list-plain : (vs : List Value) → Plain (44 ∷ map tag vs)
 list-plain vs zero l e = omega arith
 list-plain vs (suc k) l e = tags-plain vs k (omega arith) e
 
-pub encode-encodes : (m : Content) → get_or m.address 0 0 ≡ 47 → Plain m.address → All Encodable m.arguments → length (encode m) ≤ 4096 → Encoding m (encode m)
+pub encode-encodes : (m : Content) → get_or m.address 0 0 ≡ 47 → Plain m.address → AllByRecursion Encodable m.arguments → length (encode m) ≤ 4096 → Encoding m (encode m)
 unfolding encode
 encode-encodes m slash plain good short = record {
   behind = text_bytes (44 ∷ map tag m.arguments) ++ flat_map field_bytes m.arguments;

@@ -2,7 +2,7 @@
 use Rattle.std.specs.Prelude.{◌≡◌, ℕ, ◌+◌, ◌/◌, ◌%◌, ◌<◌, ◌≤◌, List, [], ◌∷◌, ◌++◌, map, length, ℤ, pos, FitsSigned, slice_index, slice_index_or}
 use Rattle.std.specs.Int.{w32}
 use Rattle.std.proofs.Common.{of_z}
-use Rattle.std.specs.List.{AllByRecursion as All}
+use Rattle.std.specs.List.{AllByRecursion}
 
 -- an argument: a number, or a text or a blob with its bytes
 pub data Value : Type 0 where
@@ -39,7 +39,7 @@ pub record Filled (part bs rest : List ℕ) : Type 0 where
   pub split : bs ≡ part ++ (fill ++ rest)
   pub few : length fill < 4
   pub whole : (length part + length fill) % 4 ≡ 0
-  pub each : All FillByte fill
+  pub each : AllByRecursion FillByte fill
 
 -- an OSC-string: its bytes, a zero byte, fill bytes
 pub record TextOf (s bs rest : List ℕ) : Type 0 where

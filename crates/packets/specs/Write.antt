@@ -1,6 +1,6 @@
 -- What the writer's list of entries means, and what writing leaves in a buffer. Assumes nothing.
 use Rattle.std.specs.Prelude.{◌≡◌, ℕ, ◌+◌, ◌<◌, ◌≤◌, ◌⊎◌, List, ◌++◌, map, length, take, drop, Result, MatchResult}
-use Rattle.std.specs.List.{between, AllByRecursion as All}
+use Rattle.std.specs.List.{between, AllByRecursion}
 use Rattle.refusals.specs.declared.Refusal.{Refusal}
 use Rattle.refusals.specs.declared.Refusal.TheVariants.{BrokenLayout, BufferTooShort}
 use Rattle.packets.specs.Osc.{Value, number, text, blob, Field, Content, Encoding, Means}
@@ -34,7 +34,7 @@ Inside lent (Blob p) = (p.from ≤ p.to) × (p.to ≤ length lent)
 
 -- so does each entry's
 abbrev pub Placed : List ℕ → List Entry → Type 0
-Placed lent es = All (Inside lent) es
+Placed lent es = AllByRecursion (Inside lent) es
 
 -- the message that an address and a list of entries mean
 abbrev pub content_of : List ℕ → List ℕ → List Entry → Content

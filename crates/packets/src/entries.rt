@@ -1,6 +1,6 @@
 // The list that a message is written from, and how many bytes it takes.
 ghost use Rattle.std.specs.Prelude.{◌≡◌, ℕ, ◌+◌, ◌^◌, ◌<◌, ◌≤◌, List, ◌∷◌, map, length, MatchOption};
-ghost use Rattle.std.specs.List.{between, flat_map, AllByRecursion as All};
+ghost use Rattle.std.specs.List.{between, flat_map, AllByRecursion};
 ghost use Rattle.packets.specs.Osc.{Plain, Field, Fields, Encoding};
 ghost use Rattle.packets.specs.Encode.{fill_len, text_bytes, blob_bytes, encode};
 ghost use Rattle.packets.specs.Write.{entry_bytes, entry_value, letter_of, Inside, Placed, content_of, Encodable, Sendable, Broken};
@@ -92,7 +92,7 @@ fn entry_size(e: Entry, lent: &[u8]) -> Option<usize>
 
 // How many bytes the entries take, or `None` where no packet can hold them.
 fn fields_size(entries: &[Entry], lent: &[u8]) -> Option<usize>
-    ensures { MatchOption result (Placed lent.now entries.now → (bs : List ℕ) → Fields (map (entry_value lent.now) entries.now) bs → length bs ≤ 4096 → ⊥) (λ n. All (Sendable lent.now) entries.now × (n ≡ length (flat_map (entry_bytes lent.now) entries.now))) }
+    ensures { MatchOption result (Placed lent.now entries.now → (bs : List ℕ) → Fields (map (entry_value lent.now) entries.now) bs → length bs ≤ 4096 → ⊥) (λ n. AllByRecursion (Sendable lent.now) entries.now × (n ≡ length (flat_map (entry_bytes lent.now) entries.now))) }
 {
     let mut total = 0;
     for e in entries {

@@ -2,7 +2,7 @@
 use Rattle.std.proofs.Common.{◌≡◌, ℕ, ◌<◌, ◌≤◌, Bool, true, ◌&&◌, ltb, List, [], ◌∷◌, length, get_or, pos, codes, refl, arith, w32, SFits}
 use Rattle.std.proofs.ByRecursion.{All-get_or, Decides-by_and}
 use Rattle.std.proofs.lemmas.Bool.Decides.{Decides-ltb}
-use Rattle.std.specs.List.{AllByRecursion as All}
+use Rattle.std.specs.List.{AllByRecursion}
 use Rattle.packets.specs.Osc.{Content, Value, number, Plain, Encoding}
 use Rattle.packets.specs.Encode.{encode, text_bytes, filled_bytes}
 use Rattle.packets.specs.Write.{Encodable}
@@ -33,7 +33,7 @@ pub record Small (m : Content) : Type 0 where
   pub encodes : Encoding m (encode m)
   pub few : length (encode m) ≤ 24
 
-small : (m : Content) → get_or m.address 0 0 ≡ 47 → nonzero m.address ≡ true → All Encodable m.arguments → length (encode m) ≤ 24 → Small m
+small : (m : Content) → get_or m.address 0 0 ≡ 47 → nonzero m.address ≡ true → AllByRecursion Encodable m.arguments → length (encode m) ≤ 24 → Small m
 small m slash letters all few = record { encodes = encode-encodes m slash (plain m.address letters) all (omega arith); few = few }
 
 pub small_ok : Small (message (codes "/hall/ok") [])

@@ -1,5 +1,5 @@
 use Rattle.std.proofs.Common.{◌+◌, length, take, pos, ap, ◌∙◌, subst, arith}
-use Rattle.std.specs.List.{flat_map, AllByRecursion as All}
+use Rattle.std.specs.List.{flat_map, AllByRecursion}
 use Rattle.std.proofs.lemmas.List.{take_all, length-append}
 use Rattle.std.proofs.ByRecursion.{All-get_or, All-more}
 use Rattle.packets.specs.declared.entries.Entry.TheVariants.{Number}
@@ -37,4 +37,4 @@ loop-e-preserved c =
 pub returns : goal.returns
 returns c =
     let all = take_all c.loop-e.e-index c.args.entries.now (omega arith) in
-    (subst (All (Sendable c.args.lent.now)) all c.loop-e.invariant.1, c.loop-e.invariant.0 ∙ ap (λ x. length (flat_map (entry_bytes c.args.lent.now) x)) all)
+    (subst (AllByRecursion (Sendable c.args.lent.now)) all c.loop-e.invariant.1, c.loop-e.invariant.0 ∙ ap (λ x. length (flat_map (entry_bytes c.args.lent.now) x)) all)
