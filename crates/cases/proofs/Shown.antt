@@ -4,7 +4,7 @@ use Rattle.std.proofs.lemmas.Bool.{both_ways}
 use Rattle.sets.specs.Sets.{has, mask_of, count_of, members, every, smallest, inside, among, Whole}
 use Rattle.rules.specs.Making.{NoneCompletes, Sound}
 use Rattle.rules.specs.Kings.{others_below, first_others, king_count}
-use Rattle.rules.specs.GroupLaws.{sound_below, sound_apart, not-together, not-one_missing}
+use Rattle.rules.specs.GroupLaws.{sound_below, sound_apart, not-together, not_one_missing}
 use Rattle.rig_cases.proofs.Shown.{worked}
 use Rattle.agreement_cases.proofs.Worked.{majorities, one_entry, two-entries, four_entries}
 use Rattle.cases.specs.Cases.{trio_and_pair, CountCases, GroupCases, KingCases, WorkedCases}
@@ -12,11 +12,11 @@ use Rattle.cases.specs.Cases.{trio_and_pair, CountCases, GroupCases, KingCases, 
 count_cases : CountCases
 count_cases =
     record {
-      five-two = ((omega arith, omega arith), omega arith, omega arith);
+      five_two = ((omega arith, omega arith), omega arith, omega arith);
       sixteen_seven = ((omega arith, omega arith), omega arith, omega arith);
       four_two = λ m. omega (arith, m.2);
       sixteen_eight = λ m. omega (arith, m.2);
-      three-none = λ m. omega (arith, m.1);
+      three_none = λ m. omega (arith, m.1);
       refused = refl;
     }
 
@@ -54,8 +54,8 @@ pub group_cases : GroupCases
 group_cases =
     record {
       trio_and_pair_lem = ((omega arith, omega arith), omega arith, sound_below 6 (omega arith) trio_and_pair (omega arith) each_sound, sound_apart 6 (omega arith) trio_and_pair (omega arith) each_sound);
-      two-trios = λ m. not-together 6 (omega arith) (7 ∷ 56 ∷ []) m.2 m.3 7 56 (0, omega arith, refl) (1, omega arith, refl) trios-whole;
-      all_but_one = λ m. not-one_missing 6 (omega arith) (31 ∷ []) m.2 m.3 31 (0, omega arith, refl) five-members;
+      two_trios = λ m. not-together 6 (omega arith) (7 ∷ 56 ∷ []) m.2 m.3 7 56 (0, omega arith, refl) (1, omega arith, refl) trios-whole;
+      all_but_one = λ m. not_one_missing 6 (omega arith) (31 ∷ []) m.2 m.3 31 (0, omega arith, refl) five-members;
     }
 
 king_cases : KingCases

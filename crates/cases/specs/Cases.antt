@@ -14,17 +14,17 @@ trio_and_pair = 7 ∷ 24 ∷ []
 
 -- Count rules of n stations of which any t may be broken: which numbers make one. Those that do not are refused with 5.
 pub record CountCases : Type 0 where
-  pub five-two : CountMade 5 2
+  pub five_two : CountMade 5 2
   pub sixteen_seven : CountMade 16 7
   pub four_two : CountMade 4 2 → ⊥
   pub sixteen_eight : CountMade 16 8 → ⊥
-  pub three-none : CountMade 3 0 → ⊥
+  pub three_none : CountMade 3 0 → ⊥
   pub refused : number_of UnlawfulRule ≡ 5
 
 -- Group rules of six stations: {0,1,2} and {3,4} make one; {0,1,2} with {3,4,5} do not, nor does {0,1,2,3,4}.
 pub record GroupCases : Type 0 where
   pub trio_and_pair_lem : GroupMade 6 trio_and_pair
-  pub two-trios : GroupMade 6 (7 ∷ 56 ∷ []) → ⊥
+  pub two_trios : GroupMade 6 (7 ∷ 56 ∷ []) → ⊥
   pub all_but_one : GroupMade 6 (31 ∷ []) → ⊥
 
 -- Under the first of these, caller 0 has kings 1, 2, 3 and ten rounds, caller 5 has king 0 and four, and 6 is no station.

@@ -10,7 +10,7 @@ use Rattle.agreement.specs.declared.stage.Answer.TheVariants.{Word, Lit}
 use Rattle.agreement.specs.Meanings.{Meaning}
 use Rattle.agreement.specs.Made.{meaning_of}
 use Rattle.agreement.specs.Calls.{State}
-use Rattle.agreement.specs.Calls.{Call as Asked, Open as asks_open, Round as asks-round, Strike as asks_strike, Mark as asks-mark, Clear as asks-clear, Read as asks_read, Lamp as asks-lamp}
+use Rattle.agreement.specs.Calls.{Call as Asked, Open as asks_open, Round as asks_round, Strike as asks_strike, Mark as asks_mark, Clear as asks_clear, Read as asks_read, Lamp as asks_lamp}
 use Rattle.hall.specs.declared.parts.Hall.{Hall}
 use Rattle.hall.specs.declared.call.Call.{Call}
 use Rattle.hall.specs.declared.call.Call.TheVariants.{Open, Round, Strike, Mark, Clear, Read, Lamp}
@@ -38,12 +38,12 @@ put x s = record { rig = x.rig; rule = x.rule; rest = x.rest; state = s }
 -- a call as the definitions have it: a round with the sheet that it was given
 abbrev pub asked : {K : Type 0} → Call K → List ℕ → Asked K
 asked (Open take caller word) sheet = asks_open take caller word
-asked Round sheet = asks-round sheet
+asked Round sheet = asks_round sheet
 asked Strike sheet = asks_strike
-asked (Mark p) sheet = asks-mark p
-asked (Clear p) sheet = asks-clear p
+asked (Mark p) sheet = asks_mark p
+asked (Clear p) sheet = asks_clear p
 asked (Read p) sheet = asks_read p
-asked (Lamp p) sheet = asks-lamp p
+asked (Lamp p) sheet = asks_lamp p
 
 -- the answer of a call that has nothing to tell, as the call of its own name gives it
 abbrev pub done_of : {K : Type 0} → Result (Answer K) Refusal → Result (Unit {0}) Refusal

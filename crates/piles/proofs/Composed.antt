@@ -15,8 +15,8 @@ use Rattle.patch.specs.Patching.{wire_down, trio_down, patched_wire, patched_tri
 use Rattle.patch.specs.Boxing.{in_down, trio-down-good, wire-down-good}
 use Rattle.patch.specs.Down.{patched_bad, patched_mute, patched_at}
 
-pub one-each_composed : (f g : Boxes) → OneEach f → OneEach g → OneEach (λ i. g (f i))
-one-each_composed f g o q = record {
+pub one_each-composed : (f g : Boxes) → OneEach f → OneEach g → OneEach (λ i. g (f i))
+one_each-composed f g o q = record {
   within = λ i l. q.within (f i) (o.within i l);
   once = λ i j li lj e. o.once i j li lj (q.once (f i) (f j) (o.within i li) (o.within j lj) e);
 }
@@ -85,7 +85,7 @@ module _ (f g : Boxes) (o : OneEach f) (q : OneEach g) where
       let two = trio_down g (trio_down f k) in
       let one = trio_down (λ i. g (f i)) k in
       let t2 = trio-facts two (trio-down-good g q (trio_down f k) (trio-down-good f o k e)) in
-      let t1 = trio-facts one (trio-down-good (λ i. g (f i)) (one-each_composed f g o q) k e) in
+      let t1 = trio-facts one (trio-down-good (λ i. g (f i)) (one_each-composed f g o q) k e) in
       let at : (x : ℕ) → (x ≡ g (f k.a)) ⊎ ((x ≡ g (f k.b)) ⊎ (x ≡ g (f k.c))) → (x ≡ two.a) ⊎ ((x ≡ two.b) ⊎ (x ≡ two.c))
       = (λ x h. in_cases two x (⊎_elim (λ r. under_two k x k.a r (in_a k)) (⊎_elim (λ r. under_two k x k.b r (in_b k)) (λ r. under_two k x k.c r (in_c k))) h)) in
       let r = rising-same two.a two.b two.c one.a one.b one.c t2.1 t2.2 t1.1 t1.2

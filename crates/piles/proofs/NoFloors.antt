@@ -30,16 +30,16 @@ own-trio k e =
     (λ i. record { take = k.take; round = k.round; a = r.0 i; b = r.1 i; c = r.2 i; speaker = k.speaker })
 
 -- a wire that keeps the law of bad keys is its own patch by no boxes
-pub wire-no_floors : (w : Wires) → BadWire w → (k : WireKey) (code broken : ℕ) → broken < 2 ^ 16 → w k code broken ≡ patched_wire (λ i. i) w k code broken
-wire-no_floors w bad k code broken l =
+pub wire_no_floors : (w : Wires) → BadWire w → (k : WireKey) (code broken : ℕ) → broken < 2 ^ 16 → w k code broken ≡ patched_wire (λ i. i) w k code broken
+wire_no_floors w bad k code broken l =
     ⊎_elim
     (λ (e : good_wire k ≡ true). sym (cond-true (good_wire k) _ _ e ∙ ap (w k code) (own-set broken l)))
     (λ (e : good_wire k ≡ false). bad k code broken e ∙ sym (patched_bad (λ i. i) w k code broken e))
     (cases_Bool (good_wire k))
 
 -- and so is a trio line
-pub trio-no_floors : (h : Casts) → Mute h → (k : TrioKey) (code broken : ℕ) → broken < 2 ^ 16 → h k code broken ≡ patched_trio (λ i. i) h k code broken
-trio-no_floors h mute k code broken l =
+pub trio_no_floors : (h : Casts) → Mute h → (k : TrioKey) (code broken : ℕ) → broken < 2 ^ 16 → h k code broken ≡ patched_trio (λ i. i) h k code broken
+trio_no_floors h mute k code broken l =
     ⊎_elim
     (λ (e : good_trio k ≡ true).
     let x = h k code broken in

@@ -11,8 +11,8 @@ use Rattle.patch.specs.Boxes.{box_of, OneEach, boxes}
 use Rattle.patch.specs.Patching.{wire_down, trio_down, patched_wire, patched_trio}
 use Rattle.patch.specs.Down.{patched_lawful}
 use Rattle.piles.specs.Piles.{pile_wire, pile_trio, box_under, Stands, Pile}
-use Rattle.piles.proofs.Composed.{one-each_composed, boxes-lt, wire_floors, trio_floors}
-use Rattle.piles.proofs.NoFloors.{one-each-own, wire-no_floors, trio-no_floors}
+use Rattle.piles.proofs.Composed.{one_each-composed, boxes-lt, wire_floors, trio_floors}
+use Rattle.piles.proofs.NoFloors.{one-each-own, wire_no_floors, trio_no_floors}
 
 -- each number of the list is a patch
 abbrev pub Patches : List ℕ → Type 0
@@ -26,7 +26,7 @@ rest p ps h k l = h (suc k) (omega arith)
 
 under_each : (ps : List ℕ) → Patches ps → OneEach (box_under ps)
 under_each [] h = one-each-own
-under_each (p ∷ ps) h = one-each_composed (box_of p) (box_under ps) (first p ps h) (under_each ps (rest p ps h))
+under_each (p ∷ ps) h = one_each-composed (box_of p) (box_under ps) (first p ps h) (under_each ps (rest p ps h))
 
 pile-lawful : (ps : List ℕ) → Patches ps → (w : Wires) (h : Casts) → Lawful w h → Lawful (pile_wire ps w) (pile_trio ps h)
 pile-lawful [] all w h l = l
@@ -34,14 +34,14 @@ pile-lawful (p ∷ ps) all w h l = patched_lawful (box_of p) (first p ps all) (p
 
 pile-wires : (ps : List ℕ) → Patches ps → (w : Wires) → BadWire w → (k : WireKey) (code broken : ℕ) → broken < 2 ^ 16
     → pile_wire ps w k code broken ≡ patched_wire (box_under ps) w k code broken
-pile-wires [] all w bad k code broken l = wire-no_floors w bad k code broken l
+pile-wires [] all w bad k code broken l = wire_no_floors w bad k code broken l
 pile-wires (p ∷ ps) all w bad k code broken l =
     ap (λ x. cond (good_wire k) x silence) (pile-wires ps (rest p ps all) w bad (wire_down (box_of p) k) code (boxes (box_of p) broken) (boxes-lt (box_of p) broken))
     ∙ wire_floors (box_of p) (box_under ps) (first p ps all) (under_each ps (rest p ps all)) w k code broken
 
 pile-trios : (ps : List ℕ) → Patches ps → (h : Casts) → Mute h → (k : TrioKey) (code broken : ℕ) → broken < 2 ^ 16
     → pile_trio ps h k code broken ≡ patched_trio (box_under ps) h k code broken
-pile-trios [] all h mute k code broken l = trio-no_floors h mute k code broken l
+pile-trios [] all h mute k code broken l = trio_no_floors h mute k code broken l
 pile-trios (p ∷ ps) all h mute k code broken l =
     ap (λ x. cond (good_trio k) (each k (λ s. heard_at (trio_down (box_of p) k) x (box_of p s))) silent)
     (pile-trios ps (rest p ps all) h mute (trio_down (box_of p) k) code (boxes (box_of p) broken) (boxes-lt (box_of p) broken))

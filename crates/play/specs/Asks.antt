@@ -4,7 +4,7 @@ use Rattle.refusals.specs.declared.Refusal.{Refusal}
 use Rattle.refusals.specs.declared.Refusal.TheVariants.{BrokenLayout, UnknownAddress, WrongTags, TakeOutOfRange, NoWord}
 use Rattle.packets.specs.Osc.{Value, Content, Encoding}
 use Rattle.hall.specs.declared.call.Call.{Call}
-use Rattle.hall.specs.declared.call.Call.TheVariants.{Open as opens, Round as runs, Strike as strikes, Mark as marks, Clear as clears, Read as reads, Lamp as asks-lamp}
+use Rattle.hall.specs.declared.call.Call.TheVariants.{Open as opens, Round as runs, Strike as strikes, Mark as marks, Clear as clears, Read as reads, Lamp as asks_lamp}
 use Rattle.play.specs.declared.name.Name.{Name}
 use Rattle.play.specs.declared.name.Name.TheVariants.{Open, Round, Strike, Mark, Clear, Read, Lamp}
 use Rattle.play.specs.Numbers.{short_in, station_in, word_in}
@@ -49,7 +49,7 @@ module _ {K : Type 0} (word : ℕ → Option K) where
   call_of Mark vs = on_station (one_station vs) marks
   call_of Clear vs = on_station (one_station vs) clears
   call_of Read vs = on_station (one_station vs) reads
-  call_of Lamp vs = on_station (one_station vs) asks-lamp
+  call_of Lamp vs = on_station (one_station vs) asks_lamp
 
   -- the packet asks for a call, or is refused: one that is no message, then one whose address names no call, then by its arguments
   pub record Asks (packet : List ℕ) (r : Result (Call K) Refusal) : Type 0 where

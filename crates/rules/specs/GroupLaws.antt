@@ -118,8 +118,8 @@ module _ (n : ℕ) (high : n ≤ 16) (ms : List ℕ) where
     either false = refl
 
     -- the stations that a mask leaves out are more than one
-    pub not-one_missing : (m : ℕ) → OneOf m ms → n ≤ members m + 1 → ⊥
-    not-one_missing m o near =
+    pub not_one_missing : (m : ℕ) → OneOf m ms → n ≤ members m + 1 → ⊥
+    not_one_missing m o near =
         let b = mask_of n (λ i. not (has m i)) in
         let bl : b < 2 ^ n = mask_of-lt n (λ i. not (has m i)) in
         let cb : members b ≡ count_of n (λ i. not (has m i)) =

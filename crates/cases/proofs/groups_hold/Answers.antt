@@ -9,5 +9,5 @@ refuses b d none = not_from_false b (⊎_elim (λ t. absurd (none (d.0 t))) (λ 
 pub returns : goal.returns
 returns c =
     and_from _ _
-    (and_from _ _ (c.group_made.ensures.1 group_cases.trio_and_pair_lem) (refuses _ c.group_made-2.ensures group_cases.two-trios))
+    (and_from _ _ (c.group_made.ensures.1 group_cases.trio_and_pair_lem) (refuses _ c.group_made-2.ensures group_cases.two_trios))
     (refuses _ c.group_made-3.ensures group_cases.all_but_one)

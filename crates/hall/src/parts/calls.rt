@@ -2,7 +2,7 @@
 ghost use Rattle.std.specs.Prelude.{◌≡◌, ℕ, ◌*◌, ◌≤◌, List, [], ◌∷◌, length, if◌then◌else◌, Ok, nat_lt};
 ghost use Rattle.agreement.specs.Made.{meaning_of};
 ghost use Rattle.agreement.specs.Calls.{next, reply, sheet_after};
-ghost use Rattle.agreement.specs.Calls.{Open as asks_open, Round as asks-round, Strike as asks_strike, Mark as asks-mark, Clear as asks-clear, Read as asks_read, Lamp as asks-lamp};
+ghost use Rattle.agreement.specs.Calls.{Open as asks_open, Round as asks_round, Strike as asks_strike, Mark as asks_mark, Clear as asks_clear, Read as asks_read, Lamp as asks_lamp};
 ghost use Rattle.agreement.specs.Agreement.{Agrees};
 ghost use Rattle.hall.specs.Halls.{model, meant, put, asked, done_of, as_word, as_lit};
 ghost use Rattle.hall.specs.Histories.{Had, Does, Answers, Continues, Agreed};
@@ -90,10 +90,10 @@ impl<R: Rig, Q: Rule, K: WordKind> Hall<R, Q, K> {
 
     // Runs one round.
     pub fn round(&mut self, sheet: &mut [u16]) -> Result<(), Refusal>
-        ensures answer { result ≡ done_of (reply (meant R.Wire R.Rig.own Q.Rule K.WordKind (model self.old)) (model self.old).state (asks-round sheet.old)) }
-        ensures hall { model self.new ≡ put (model self.old) (next (meant R.Wire R.Rig.own Q.Rule K.WordKind (model self.old)) (model self.old).state (asks-round sheet.old)) }
-        ensures left { sheet.new ≡ sheet_after (meant R.Wire R.Rig.own Q.Rule K.WordKind (model self.old)) (model self.old).state (asks-round sheet.old) sheet.old }
-        ensures history { Continues R.Wire R.Rig.own Q.Rule K.WordKind (model self.old) (asks-round sheet.old) (model self.new) }
+        ensures answer { result ≡ done_of (reply (meant R.Wire R.Rig.own Q.Rule K.WordKind (model self.old)) (model self.old).state (asks_round sheet.old)) }
+        ensures hall { model self.new ≡ put (model self.old) (next (meant R.Wire R.Rig.own Q.Rule K.WordKind (model self.old)) (model self.old).state (asks_round sheet.old)) }
+        ensures left { sheet.new ≡ sheet_after (meant R.Wire R.Rig.own Q.Rule K.WordKind (model self.old)) (model self.old).state (asks_round sheet.old) sheet.old }
+        ensures history { Continues R.Wire R.Rig.own Q.Rule K.WordKind (model self.old) (asks_round sheet.old) (model self.new) }
     {
         match self.call(Call::Round, sheet) {
             Ok(_) => Ok(()),
@@ -115,9 +115,9 @@ impl<R: Rig, Q: Rule, K: WordKind> Hall<R, Q, K> {
 
     // Makes a station broken.
     pub fn mark(&mut self, station: u16) -> Result<(), Refusal>
-        ensures answer { result ≡ done_of (reply (meant R.Wire R.Rig.own Q.Rule K.WordKind (model self.old)) (model self.old).state (asks-mark station)) }
-        ensures hall { model self.new ≡ put (model self.old) (next (meant R.Wire R.Rig.own Q.Rule K.WordKind (model self.old)) (model self.old).state (asks-mark station)) }
-        ensures history { Continues R.Wire R.Rig.own Q.Rule K.WordKind (model self.old) (asks-mark station) (model self.new) }
+        ensures answer { result ≡ done_of (reply (meant R.Wire R.Rig.own Q.Rule K.WordKind (model self.old)) (model self.old).state (asks_mark station)) }
+        ensures hall { model self.new ≡ put (model self.old) (next (meant R.Wire R.Rig.own Q.Rule K.WordKind (model self.old)) (model self.old).state (asks_mark station)) }
+        ensures history { Continues R.Wire R.Rig.own Q.Rule K.WordKind (model self.old) (asks_mark station) (model self.new) }
     {
         match self.call(Call::Mark(station), &mut []) {
             Ok(_) => Ok(()),
@@ -127,9 +127,9 @@ impl<R: Rig, Q: Rule, K: WordKind> Hall<R, Q, K> {
 
     // Makes a station good.
     pub fn clear(&mut self, station: u16) -> Result<(), Refusal>
-        ensures answer { result ≡ done_of (reply (meant R.Wire R.Rig.own Q.Rule K.WordKind (model self.old)) (model self.old).state (asks-clear station)) }
-        ensures hall { model self.new ≡ put (model self.old) (next (meant R.Wire R.Rig.own Q.Rule K.WordKind (model self.old)) (model self.old).state (asks-clear station)) }
-        ensures history { Continues R.Wire R.Rig.own Q.Rule K.WordKind (model self.old) (asks-clear station) (model self.new) }
+        ensures answer { result ≡ done_of (reply (meant R.Wire R.Rig.own Q.Rule K.WordKind (model self.old)) (model self.old).state (asks_clear station)) }
+        ensures hall { model self.new ≡ put (model self.old) (next (meant R.Wire R.Rig.own Q.Rule K.WordKind (model self.old)) (model self.old).state (asks_clear station)) }
+        ensures history { Continues R.Wire R.Rig.own Q.Rule K.WordKind (model self.old) (asks_clear station) (model self.new) }
     {
         match self.call(Call::Clear(station), &mut []) {
             Ok(_) => Ok(()),
@@ -149,9 +149,9 @@ impl<R: Rig, Q: Rule, K: WordKind> Hall<R, Q, K> {
 
     // 1 if the lamp of a station is lit, else 0.
     pub fn lamp(&self, station: u16) -> Result<u16, Refusal>
-        ensures answer { as_lit result ≡ reply (meant R.Wire R.Rig.own Q.Rule K.WordKind (model self.now)) (model self.now).state (asks-lamp station) }
-        ensures answered { Answers R.Wire R.Rig.own Q.Rule K.WordKind (model self.now) (asks-lamp station) (as_lit result) }
-        ensures history { Continues R.Wire R.Rig.own Q.Rule K.WordKind (model self.now) (asks-lamp station) (model self.now) }
+        ensures answer { as_lit result ≡ reply (meant R.Wire R.Rig.own Q.Rule K.WordKind (model self.now)) (model self.now).state (asks_lamp station) }
+        ensures answered { Answers R.Wire R.Rig.own Q.Rule K.WordKind (model self.now) (asks_lamp station) (as_lit result) }
+        ensures history { Continues R.Wire R.Rig.own Q.Rule K.WordKind (model self.now) (asks_lamp station) (model self.now) }
     {
         parts_agree(&self.rig, &self.rule, &self.rest);
         self.cue_lamp(station)

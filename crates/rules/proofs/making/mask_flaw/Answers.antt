@@ -2,7 +2,7 @@ use Rattle.std.proofs.Common.{◌+◌, ◌^◌, ◌≤◌, sym}
 use Rattle.std.proofs.lemmas.Bool.{ltb-true, ltb-false}
 use Rattle.sets.specs.Sets.{members}
 use Rattle.sets.proofs.Bounds.{among-lt, among-over}
-use Rattle.rules.specs.GroupLaws.{not_stranger, not-one_missing, not-together}
+use Rattle.rules.specs.GroupLaws.{not_stranger, not_one_missing, not-together}
 use Rattle.rules.proofs.making.mask_flaw.Goals as goal
 
 pub returns-then-not-among : goal.returns-then-not-among
@@ -13,7 +13,7 @@ returns-then-not-among c = λ o.
 pub returns-then-not-leaves_two : goal.returns-then-not-leaves_two
 returns-then-not-leaves_two c = λ o.
     let l : c.args.n ≤ members c.args.mask + 1 = ltb-false _ _ (sym c.if-not-leaves_two.ensures) in
-    ((o, l), λ m. not-one_missing c.args.n c.requires.1 c.args.masks.now m.0 m.1 c.args.mask o l)
+    ((o, l), λ m. not_one_missing c.args.n c.requires.1 c.args.masks.now m.0 m.1 c.args.mask o l)
 
 pub returns-in-Some : goal.returns-in-Some
 returns-in-Some c = λ o.
