@@ -13,7 +13,7 @@ scene_code s = 64 * s.bank + s.slot
 
 -- the scene with a code's bank and slot
 unfoldable pub scene_at : ℕ → Scene
-scene_at x = record { bank = x / 64 % 16; slot = x % 64; bankLow = omega arith; slotLow = omega arith }
+scene_at x = record { bank = x / 64 % 16; slot = x % 64; bank_low = omega arith; slot_low = omega arith }
 
 -- the word of each code
 abbrev pub scene_word : ℕ → Option Scene

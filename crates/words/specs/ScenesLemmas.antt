@@ -11,14 +11,14 @@ pub same_parts : (s t : Scene) → s.bank ≡ t.bank → s.slot ≡ t.slot → s
 same_parts s t e f = λ i. record {
   bank = e i;
   slot = f i;
-  bankLow = is_prop→PathP (λ k. e k < 16) (λ k. le_prop) s.bankLow t.bankLow i;
-  slotLow = is_prop→PathP (λ k. f k < 64) (λ k. le_prop) s.slotLow t.slotLow i;
+  bank_low = is_prop→PathP (λ k. e k < 16) (λ k. le_prop) s.bank_low t.bank_low i;
+  slot_low = is_prop→PathP (λ k. f k < 64) (λ k. le_prop) s.slot_low t.slot_low i;
 }
 
 -- a scene is the one with its code's bank and slot
 pub at_code : (s : Scene) → scene_at (scene_code s) ≡ s
 unfolding scene_at
-at_code s = same_parts (scene_at (scene_code s)) s (omega (arith, s.bankLow, s.slotLow)) (omega (arith, s.bankLow, s.slotLow))
+at_code s = same_parts (scene_at (scene_code s)) s (omega (arith, s.bank_low, s.slot_low)) (omega (arith, s.bank_low, s.slot_low))
 
 pub code_at : (x : ℕ) → x < 1024 → scene_code (scene_at x) ≡ x
 unfolding scene_at

@@ -8,6 +8,6 @@ pub mod kind;
 pub struct Scene {
     bank: u8,
     slot: u8,
-    ghost bankLow: { bank < 16 },
-    ghost slotLow: { slot < 64 },
+    ghost bank_low: { bank < 16 },
+    ghost slot_low: { slot < 64 },
 }

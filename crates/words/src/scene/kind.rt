@@ -86,7 +86,7 @@ impl WordKind for Scene {
 
     ghost full = { λ x. Prim.grind (arith, nat_tests) };
 
-    ghost back = { λ w. cond-true _ _ _ (lt-ltb (scene_code w) 1024 (omega (arith, w.bankLow, w.slotLow))) ∙ ap Some (at_code w) };
+    ghost back = { λ w. cond-true _ _ _ (lt-ltb (scene_code w) 1024 (omega (arith, w.bank_low, w.slot_low))) ∙ ap Some (at_code w) };
 
     ghost only = { unfold scene_at in λ x w e. Prim.grind (arith, nat_tests) };
 
