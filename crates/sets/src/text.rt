@@ -10,16 +10,13 @@ pub struct Listed {
 
 impl fmt::Display for Listed {
     fn fmt<W: fmt::Write>(&self, f: &mut fmt::Formatter<W>) -> fmt::Result {
+        let mut stations = (0..16).filter(|i| contains(self.set, *i));
         f.write_str("{")?;
-        let mut first = true;
-        for i in 0..16 {
-            if contains(self.set, i) {
-                if !first {
-                    f.write_str(",")?;
-                }
-                first = false;
-                write!(f, "{i}")?;
-            }
+        if let Some(first) = stations.next() {
+            write!(f, "{first}")?;
+        }
+        for i in stations {
+            write!(f, ",{i}")?;
         }
         f.write_str("}")
     }
