@@ -4,48 +4,67 @@
 ghost use Rattle.std.specs.Prelude.{◌≡◌};
 ghost use Rattle.refusals.specs.Refusals.{number_of};
 
-use std::fmt;
+use thiserror::Error;
 
 // The reasons for which a call is refused. A refused call changes nothing.
-#[derive(Clone, Copy, PartialEq, Eq, Debug)]
+#[derive(Clone, Copy, PartialEq, Eq, Debug, Error)]
 pub enum Refusal {
     // a station number from n on
+    #[error("no such station")]
     NoSuchStation,
     // the call wants an idle hall
+    #[error("the hall is not idle")]
     NotIdle,
     // the call wants a running cue
+    #[error("no cue is running")]
     NotRunning,
     // the call wants a cue, running or decided
+    #[error("the hall is idle")]
     Idle,
     // the call wants a decided cue
+    #[error("the cue is not decided")]
     NotDecided,
     // no hall has been made yet
+    #[error("no hall is made yet")]
     NotMade,
     // a hall has been made already
+    #[error("a hall is made already")]
     AlreadyMade,
     // the broken set would be one that cannot fail
+    #[error("the broken stations would be a set that cannot fail")]
     TooManyBroken,
     // a sheet under 4,096 entries
+    #[error("the sheet is too short")]
     SheetTooShort,
     // a buffer that is too short for what would be written
+    #[error("the buffer is too short")]
     BufferTooShort,
     // numbers or masks that are no lawful rule
+    #[error("the rule is not lawful")]
     UnlawfulRule,
     // the station holds no word
+    #[error("the station holds no word")]
     HoldsVoid,
     // a patch in which a box occurs twice
+    #[error("a digit of the patch occurs twice")]
     DigitTwice,
     // bytes that are no message
+    #[error("the layout of the packet is broken")]
     BrokenLayout,
     // a message to an address that names no call
+    #[error("the address is unknown")]
     UnknownAddress,
     // arguments of other tags than the call's
+    #[error("the tags are not those of the call")]
     WrongTags,
     // a take outside 0 to 65,535
+    #[error("the take is out of range")]
     TakeOutOfRange,
     // a script with an odd number of bytes
+    #[error("the script has an odd number of bytes")]
     OddScript,
     // a number that is no word's code, or parts that make no word
+    #[error("no word has this code")]
     NoWord,
 }
 
@@ -75,36 +94,5 @@ impl Refusal {
             Refusal::OddScript => 10,
             Refusal::NoWord => 11,
         }
-    }
-
-    // What the case says, in words.
-    fn words(self) -> &'static str {
-        match self {
-            Refusal::NoSuchStation => "no such station",
-            Refusal::NotIdle => "the hall is not idle",
-            Refusal::NotRunning => "no cue is running",
-            Refusal::Idle => "the hall is idle",
-            Refusal::NotDecided => "the cue is not decided",
-            Refusal::NotMade => "no hall is made yet",
-            Refusal::AlreadyMade => "a hall is made already",
-            Refusal::TooManyBroken => "the broken stations would be a set that cannot fail",
-            Refusal::SheetTooShort => "the sheet is too short",
-            Refusal::BufferTooShort => "the buffer is too short",
-            Refusal::UnlawfulRule => "the rule is not lawful",
-            Refusal::HoldsVoid => "the station holds no word",
-            Refusal::DigitTwice => "a digit of the patch occurs twice",
-            Refusal::BrokenLayout => "the layout of the packet is broken",
-            Refusal::UnknownAddress => "the address is unknown",
-            Refusal::WrongTags => "the tags are not those of the call",
-            Refusal::TakeOutOfRange => "the take is out of range",
-            Refusal::OddScript => "the script has an odd number of bytes",
-            Refusal::NoWord => "no word has this code",
-        }
-    }
-}
-
-impl fmt::Display for Refusal {
-    fn fmt<W: fmt::Write>(&self, f: &mut fmt::Formatter<W>) -> fmt::Result {
-        f.write_str(self.words())
     }
 }

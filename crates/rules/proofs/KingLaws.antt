@@ -1,5 +1,5 @@
 -- The kings of a caller: what is added turn by turn, and what holds at the end.
-use Rattle.std.proofs.Common.{◌≡◌, ℕ, ◌+◌, ◌^◌, ◌<◌, ◌≤◌, Bool, true, false, not, ◌&&◌, ◌||◌, eqb, ltb, sym, ap, ◌∙◌, subst, ⊎_elim, arith}
+use Rattle.std.proofs.Common.{◌≡◌, ℕ, ◌+◌, ◌^◌, ◌<◌, ◌≤◌, Bool, true, false, not, ◌&&◌, ◌||◌, eqb, ltb, sym, ap, ◌∙◌, ap₂, subst, ⊎_elim, arith}
 use Rattle.std.proofs.lemmas.Bool.{cases_lt, cases_Bool, both_ways, not_from_true, not_from_false}
 use Rattle.std.proofs.lemmas.Nat.{pow_below}
 use Rattle.std.proofs.lemmas.Bool.Decides.{nat_tests}
@@ -30,18 +30,6 @@ first-none n c = mask_is n 0 (λ s. not (eqb s c) && ltb (others_below c s) 0) (
     no_one b m = grind (arith, nat_tests)
 
 -- how many others there are below a station
-pub others-none : (c : ℕ) → others_below c 0 ≡ 0
-unfolding others_below
-others-none c = grind (arith, nat_tests)
-
-pub others_skip : (c i : ℕ) → i ≡ c → others_below c i ≡ others_below c (i + 1)
-unfolding others_below
-others_skip c i e = grind (arith, nat_tests)
-
-pub others_join : (c i : ℕ) → (i ≡ c → ⊥) → others_below c i + 1 ≡ others_below c (i + 1)
-unfolding others_below
-others_join c i d = grind (arith, nat_tests)
-
 pub others-few : (c i n : ℕ) → i ≤ n → c < n → others_below c i < n
 unfolding others_below
 others-few c i n l h = grind (arith, nat_tests)
@@ -55,7 +43,7 @@ join_at : (c i s : ℕ) (b : Bool) → (i ≡ c → ⊥) → b ≡ (not (eqb s c
 unfolding others_below
 join_at c i s b d e = grind (arith, nat_tests)
 
-pub first_joins : (n c i k : ℕ) → n ≤ 16 → i < n → (i ≡ c → ⊥) → k ≡ others_below c i → mask_of 16 (λ j. has (first_others n c k) j || eqb i j) ≡ first_others n c (k + 1)
+first_joins : (n c i k : ℕ) → n ≤ 16 → i < n → (i ≡ c → ⊥) → k ≡ others_below c i → mask_of 16 (λ j. has (first_others n c k) j || eqb i j) ≡ first_others n c (k + 1)
 unfolding first_others
 first_joins n c i k high l d e =
     mask_cut n 16 (λ j. has (first_others n c k) j || eqb i j) (λ s. not (eqb s c) && ltb (others_below c s) (k + 1)) high
@@ -93,6 +81,10 @@ with_none n c l =
 king-other : (c j : ℕ) → 1 ≤ j → king c j ≡ c → ⊥
 king-other c j l e = grind (arith, nat_tests)
 
+king-others : (c k : ℕ) → k ≡ others_below c (king c (k + 1))
+unfolding others_below
+king-others c k = grind (arith, nat_tests)
+
 king-rising : (c i j : ℕ) → 1 ≤ i → i < j → king c i < king c j
 king-rising c i j l h = grind (arith, nat_tests)
 
@@ -114,14 +106,20 @@ module _ (n : ℕ) (fails : ℕ → Bool) (sized : Sized n) (apart : Apart n fai
       let all = with_caller c (first_others n c (others_below c n)) in
       ⊎_elim (λ t. absurd (apart all all t t (all_whole n c sized.1 h))) (λ f. f) (cases_Bool (fails all))
 
-  -- while caller and kings can fail, there is a station to come
-  pub goes_on : (i k set : ℕ) → i ≤ n → k ≡ others_below c i → set ≡ first_others n c k → fails (with_caller c set) ≡ true → i < n
-  goes_on i k set l e q t =
-      ⊎_elim (λ (m : i < n). m)
-      (λ (m : n ≤ i).
-      let z : i ≡ n = omega arith in
-      absurd (both_ways (fails (with_caller c set)) (ap (λ x. fails (with_caller c x)) (q ∙ ap (first_others n c) (e ∙ ap (others_below c) z)) ∙ all_cannot) t))
-      (cases_lt i n)
+  -- while caller and kings can fail, there is one more king to come
+  pub goes_on : (k set : ℕ) → k < n → set ≡ first_others n c k → fails (with_caller c set) ≡ true → k + 1 < n
+  goes_on k set l q t =
+      ⊎_elim (λ (m : k + 1 < n). m)
+      (λ (m : n ≤ k + 1).
+      let z : k ≡ others_below c n = omega (arith, others-all c n h) in
+      absurd (both_ways (fails (with_caller c set)) (ap (λ x. fails (with_caller c x)) (q ∙ ap (first_others n c) z) ∙ all_cannot) t))
+      (cases_lt (k + 1) n)
+
+  -- with king number k + 1 they are the first k + 1 kings
+  pub king_joins : (k set i : ℕ) → k + 1 < n → set ≡ first_others n c k → i ≡ king c (k + 1) → mask_of 16 (λ j. has set j || eqb i j) ≡ first_others n c (k + 1)
+  king_joins k set i l q e =
+      ap₂ (λ x y. mask_of 16 (λ j. has x j || eqb y j)) q e
+      ∙ first_joins n c (king c (k + 1)) k sized.1 (king-below n c (k + 1) h (omega arith) l) (king-other c (k + 1) (omega arith)) (king-others c k)
 
   -- the first number that passes is the number of kings
   pub count-is : (k : ℕ) → k < n → ((j : ℕ) → j < k → fails (with_caller c (first_others n c j)) ≡ true) → fails (with_caller c (first_others n c k)) ≡ false → king_count n fails c ≡ k

@@ -32,3 +32,7 @@ GroupFlaw n ms (Stranger m) = OneOf m ms × (2 ^ n ≤ m)
 GroupFlaw n ms (OneMissing m) = OneOf m ms × (n ≤ members m + 1)
 -- the masks a and b make up all n stations
 GroupFlaw n ms (Together a b) = OneOf a ms × OneOf b ms × Whole n a b
+
+-- a flaw of the number of stations, whatever else the rule has
+abbrev pub StationsFlaw : ℕ → Flaw → Type 0
+StationsFlaw n f = ((t : ℕ) → CountFlaw n t f) × ((ms : List ℕ) → GroupFlaw n ms f)

@@ -9,6 +9,7 @@ ghost use Rattle.std.proofs.Common.{rules, arith};
 
 use crate::Rule;
 use crate::flaw::Flaw;
+use crate::making::station_count;
 use refusals::Refusal;
 use sets::{among, size};
 
@@ -21,36 +22,35 @@ pub struct CountRule {
 }
 
 impl CountRule {
+    // The rule of these numbers, or what keeps them from making one.
+    fn made(n: u16, t: u16) -> Result<CountRule, Flaw>
+        ensures { MatchResult result (λ c. CountMade n t × (c.n ≡ n) × (c.t ≡ t)) (λ f. CountFlaw n t f × (CountMade n t → ⊥)) }
+    {
+        let stations = station_count(n)?;
+        if t < 1 {
+            return Err(Flaw::NoneBroken);
+        }
+        if 2 * u32::from(t) >= u32::from(n) {
+            return Err(Flaw::HalfBroken);
+        }
+        Ok(CountRule {
+            n: stations,
+            t: t as u8,
+        })
+    }
+
     // What keeps these numbers from making a rule, if anything does.
     pub fn flaw(n: u16, t: u16) -> Option<Flaw>
         ensures { MatchOption result (CountMade n t) (λ f. CountFlaw n t f × (CountMade n t → ⊥)) }
     {
-        if n < 3 {
-            return Some(Flaw::FewStations);
-        }
-        if n > 16 {
-            return Some(Flaw::ManyStations);
-        }
-        if t < 1 {
-            return Some(Flaw::NoneBroken);
-        }
-        if 2 * u32::from(t) >= u32::from(n) {
-            return Some(Flaw::HalfBroken);
-        }
-        None
+        CountRule::made(n, t).err()
     }
 
     // The rule of these numbers, or a refusal where they make none.
     pub fn new(n: u16, t: u16) -> Result<CountRule, Refusal>
         ensures { MatchResult result (λ c. CountMade n t × (c.n ≡ n) × (c.t ≡ t)) (λ e. (e ≡ UnlawfulRule) × (CountMade n t → ⊥)) }
     {
-        if CountRule::flaw(n, t).is_some() {
-            return Err(Refusal::UnlawfulRule);
-        }
-        Ok(CountRule {
-            n: n as u8,
-            t: t as u8,
-        })
+        Ok(CountRule::made(n, t)?)
     }
 }
 

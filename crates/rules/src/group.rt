@@ -1,5 +1,5 @@
 // The group rule: a set can fail if it lies within one of the masks, or has at most one member.
-ghost use Rattle.std.specs.Prelude.{◌≡◌, ℕ, ◌≤◌, Bool, ◌&&◌, ◌||◌, length, take, MatchOption, MatchResult, nat_le};
+ghost use Rattle.std.specs.Prelude.{◌≡◌, ℕ, ◌≤◌, Bool, ◌&&◌, ◌||◌, List, [], length, MatchOption, MatchResult, nat_le};
 ghost use Rattle.refusals.specs.declared.Refusal.TheVariants.{UnlawfulRule};
 ghost use Rattle.sets.specs.Sets.{members};
 ghost use Rattle.rules.specs.Rules.{Sized, Apart};
@@ -10,7 +10,8 @@ ghost use Rattle.std.proofs.Common.{rules, arith};
 
 use crate::Rule;
 use crate::flaw::Flaw;
-use crate::making::{masks_flaw, table};
+use crate::making::{masks_flaw, station_count};
+use arrayvec::ArrayVec;
 use refusals::Refusal;
 use sets::{among, size, within};
 
@@ -18,60 +19,58 @@ use sets::{among, size, within};
 #[derive(Drop)]
 pub struct GroupRule {
     n: u8,
-    count: usize,
-    masks: [u16; 16],
-    ghost few: { count ≤ 16 },
+    masks: ArrayVec<u16, 16>,
     ghost sized: { Sized n },
-    ghost below: { Below n (take count masks) },
-    ghost apart: { Apart n (group_fails n (take count masks)) },
+    ghost few: { length masks.items ≤ 16 },
+    ghost below: { Below n masks.items },
+    ghost apart: { Apart n (group_fails n masks.items) },
 }
 
 impl GroupRule {
     // Three stations and no masks, a lawful rule to be filled by make.
     pub fn new() -> Self
-        ensures { (result.n ≡ 3) × (result.count ≡ 0) }
+        ensures { (result.n ≡ 3) × (result.masks.items ≡ []) }
     {
         GroupRule {
             n: 3,
-            count: 0,
-            masks: [0; 16],
+            masks: ArrayVec::new(),
         }
+    }
+
+    // The rule of n and these masks, or what keeps them from making one.
+    fn made(n: u16, masks: &[u16]) -> Result<GroupRule, Flaw>
+        ensures { MatchResult result (λ q. GroupMade n masks.now × (q.n ≡ n) × (q.masks.items ≡ masks.now)) (λ f. GroupFlaw n masks.now f × (GroupMade n masks.now → ⊥)) }
+    {
+        let stations = station_count(n)?;
+        let kept = ArrayVec::try_from(masks).map_err(|_| Flaw::ManyMasks)?;
+        if let Some(flaw) = masks_flaw(stations, masks) {
+            return Err(flaw);
+        }
+        Ok(GroupRule {
+            n: stations,
+            masks: kept,
+        })
     }
 
     // What keeps n and these masks from making a rule, if anything does.
     pub fn flaw(n: u16, masks: &[u16]) -> Option<Flaw>
         ensures { MatchOption result (GroupMade n masks.now) (λ f. GroupFlaw n masks.now f × (GroupMade n masks.now → ⊥)) }
     {
-        if n < 3 {
-            return Some(Flaw::FewStations);
-        }
-        if n > 16 {
-            return Some(Flaw::ManyStations);
-        }
-        if masks.len() > 16 {
-            return Some(Flaw::ManyMasks);
-        }
-        masks_flaw(n as u8, masks)
+        GroupRule::made(n, masks).err()
     }
 
     // Fills the rule with n and these masks, or refuses and leaves it as it was.
     pub fn make(&mut self, n: u16, masks: &[u16]) -> Result<(), Refusal>
         ensures made { MatchResult result (λ _. GroupMade n masks.now) (λ e. (e ≡ UnlawfulRule) × (GroupMade n masks.now → ⊥)) }
-        ensures after { MatchResult result (λ _. (self.new.n ≡ n) × (take self.new.count self.new.masks ≡ masks.now)) (λ _. self.new ≡ self.old) }
+        ensures after { MatchResult result (λ _. (self.new.n ≡ n) × (self.new.masks.items ≡ masks.now)) (λ _. self.new ≡ self.old) }
     {
-        if GroupRule::flaw(n, masks).is_some() {
-            return Err(Refusal::UnlawfulRule);
-        }
-        *self = GroupRule {
-            n: n as u8,
-            count: masks.len(),
-            masks: table(masks),
-        };
+        *self = GroupRule::made(n, masks)?;
         Ok(())
     }
 }
 
 // Whether the set lies within one of the masks.
+// A loop by a rule of the project: one over the borrowed slice of masks decides whether a set lies within one of them.
 fn lies_within(masks: &[u16], set: u16) -> bool
     ensures { result ≡ lies masks.now set }
 {
@@ -93,15 +92,15 @@ fn is_single(set: u16) -> bool
 impl Rule for GroupRule {
     ghost stations = { λ r. r.n };
 
-    ghost fails = { λ r. group_fails r.n (take r.count r.masks) };
+    ghost fails = { λ r. group_fails r.n r.masks.items };
 
     ghost sized = { first_of (Prim.search rules, Prim.grind (arith, Self.row.coded.inj)) };
 
-    ghost own = { λ r. group-own r.n r.sized.1 (take r.count r.masks) };
+    ghost own = { λ r. group-own r.n r.sized.1 r.masks.items };
 
-    ghost part = { λ r. group-part r.n r.sized.1 (take r.count r.masks) };
+    ghost part = { λ r. group-part r.n r.sized.1 r.masks.items };
 
-    ghost single = { λ r. group-single r.n r.sized.1 (take r.count r.masks) };
+    ghost single = { λ r. group-single r.n r.sized.1 r.masks.items };
 
     ghost apart = { first_of (Prim.search rules, Prim.grind (arith, Self.row.coded.inj)) };
 
@@ -110,6 +109,6 @@ impl Rule for GroupRule {
     }
 
     fn can_fail(&self, set: u16) -> bool {
-        among(set, self.n) & (is_single(set) | lies_within(&self.masks[0..self.count], set))
+        among(set, self.n) & (is_single(set) | lies_within(self.masks.as_slice(), set))
     }
 }

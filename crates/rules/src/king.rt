@@ -1,6 +1,6 @@
 // The kings of a caller, and how many rounds a cue of that caller has.
 ghost use Rattle.std.specs.Prelude.{◌≡◌, ℕ, ◌<◌, ◌≤◌, Bool, not, MatchResult};
-ghost use Rattle.rules.specs.Kings.{with_caller, kings_of_station, kings_of, king_at, rounds_of, KingFacts};
+ghost use Rattle.rules.specs.Kings.{king, with_caller, kings_of_station, kings_of, king_at, rounds_of, KingFacts};
 
 use crate::Rule;
 use refusals::Refusal;
@@ -29,8 +29,16 @@ impl Kings {
         if j < 1 || j > self.count {
             return None;
         }
-        Some(if j <= self.caller { j - 1 } else { j })
+        Some(king_number(self.caller, j))
     }
+}
+
+// King number j of a caller, counted from 1: the other station with j - 1 others below it.
+fn king_number(caller: u8, j: u8) -> u8
+    requires { 1 ≤ j }
+    ensures { result ≡ king caller j }
+{
+    if j <= caller { j - 1 } else { j }
 }
 
 // The kings of the caller under the rule, or a refusal where the caller is no station.
@@ -59,16 +67,13 @@ fn first_kings<R: Rule>(rule: &R, caller: u8) -> Kings
 {
     let mut set = 0;
     let mut count = 0;
-    let mut i = 0;
+    // A form that the project prescribes: the loop adds stations, and yields the king set and its number by break.
     let (set, count) = loop {
         if cannot_fail(rule, caller, set) {
             break (set, count);
         }
-        if i != caller {
-            set = with(set, i);
-            count += 1;
-        }
-        i += 1;
+        count += 1;
+        set = with(set, king_number(caller, count));
     };
     Kings { caller, set, count }
 }

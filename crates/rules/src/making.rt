@@ -1,12 +1,25 @@
-// What is wrong with the masks of a group rule, and the table that holds them.
-ghost use Rattle.std.specs.Prelude.{◌≡◌, ℕ, ◌+◌, ◌^◌, ◌<◌, ◌≤◌, Bool, length, take, MatchOption, nat_lt};
+// What is wrong with the numbers and masks of a rule.
+ghost use Rattle.std.specs.Prelude.{◌≡◌, ℕ, ◌+◌, ◌^◌, ◌<◌, ◌≤◌, Bool, MatchOption, MatchResult, nat_lt};
 ghost use Rattle.sets.specs.Sets.{members, Whole};
 ghost use Rattle.rules.specs.Rules.{Sized};
-ghost use Rattle.rules.specs.Flaws.{OneOf};
+ghost use Rattle.rules.specs.Flaws.{OneOf, StationsFlaw};
 ghost use Rattle.rules.specs.Making.{NoneCompletes, Sound, MasksMade, Flawed};
 
 use crate::flaw::Flaw;
 use sets::{among, make_up, size};
+
+// The number of stations of a rule, 3 to 16.
+pub(crate) fn station_count(n: u16) -> Result<u8, Flaw>
+    ensures { MatchResult result (λ stations. (stations ≡ n) × Sized n) (λ f. StationsFlaw n f × (Sized n → ⊥)) }
+{
+    if n < 3 {
+        return Err(Flaw::FewStations);
+    }
+    if n > 16 {
+        return Err(Flaw::ManyStations);
+    }
+    Ok(n as u8)
+}
 
 // Whether the mask leaves out two stations at least, so that no single one makes up all n with it.
 fn leaves_two(n: u8, mask: u16) -> bool
@@ -19,12 +32,7 @@ fn leaves_two(n: u8, mask: u16) -> bool
 fn completing(n: u8, masks: &[u16], set: u16) -> Option<u16>
     ensures { MatchOption result (NoneCompletes n masks.now set) (λ m. OneOf m masks.now × Whole n m set) }
 {
-    for m in masks {
-        if make_up(n, *m, set) {
-            return Some(*m);
-        }
-    }
-    None
+    masks.iter().copied().find(|m| make_up(n, *m, set))
 }
 
 // What is wrong with one of the masks.
@@ -38,10 +46,7 @@ fn mask_flaw(n: u8, masks: &[u16], mask: u16) -> Option<Flaw>
     if !leaves_two(n, mask) {
         return Some(Flaw::OneMissing { mask });
     }
-    match completing(n, masks, mask) {
-        Some(a) => Some(Flaw::Together { a, b: mask }),
-        None => None,
-    }
+    completing(n, masks, mask).map(|a| Flaw::Together { a, b: mask })
 }
 
 // What is wrong with the first mask that is not right.
@@ -49,22 +54,5 @@ pub(crate) fn masks_flaw(n: u8, masks: &[u16]) -> Option<Flaw>
     requires { Sized n }
     ensures { MatchOption result (MasksMade n masks.now) (Flawed n masks.now) }
 {
-    for m in masks {
-        if let Some(flaw) = mask_flaw(n, masks, *m) {
-            return Some(flaw);
-        }
-    }
-    None
-}
-
-// The masks in a table of their own.
-pub(crate) fn table(masks: &[u16]) -> [u16; 16]
-    requires { length masks.now ≤ 16 }
-    ensures { take (length masks.now) result ≡ masks.now }
-{
-    let mut all = [0; 16];
-    for (i, m) in masks.iter().enumerate() {
-        all[i] = *m;
-    }
-    all
+    masks.iter().find_map(|m| mask_flaw(n, masks, *m))
 }

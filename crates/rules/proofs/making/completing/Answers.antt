@@ -1,18 +1,30 @@
-use Rattle.std.proofs.Common.{get_or, sym, refl, arith, below_more}
+use Rattle.std.proofs.Common.{◌≡◌, ℕ, ◌<◌, true, false, List, Option, Some, None, length, arith, rules, tests}
+use Rattle.std.specs.List.{AllWithin, HoldsAt}
+use Rattle.std.specs.Option.{MatchOption}
 use Rattle.std.proofs.lemmas.Bool.{both_ways}
-use Rattle.sets.specs.Sets.{whole}
+use Rattle.std.proofs.lemmas.Iterator.{first_from_find, YieldsList-from_slice}
+use Rattle.std.proofs.lemmas.Iterator.Consumers.{YieldsList-from_copied}
+use Rattle.sets.specs.Sets.{whole, Whole}
 use Rattle.sets.proofs.Tests.{whole-decides}
+use Rattle.rules.specs.Flaws.{OneOf}
+use Rattle.rules.specs.Making.{NoneCompletes}
 use Rattle.rules.proofs.making.completing.Goals as goal
 
-pub returns-then-make_up : goal.returns-then-make_up
-returns-then-make_up c =
-    let i = c.loop-m.m-index in
-    ((i, c.loop-m-test.true, refl), (whole-decides c.args.n (get_or c.args.masks.now i 0) c.args.set).0 (sym c.if-make_up.ensures))
+module _ (n : ℕ) (ms : List ℕ) (s : ℕ) where
+  abbrev Yes : ℕ → Type 0
+  Yes m = whole n m s ≡ true
 
-pub loop-m-preserved : goal.loop-m-preserved
-loop-m-preserved c =
-    let m = get_or c.args.masks.now c.loop-m.m-index 0 in
-    below_more _ _ c.loop-m.invariant (λ w. both_ways (whole c.args.n m c.args.set) (sym c.if-make_up.ensures) ((whole-decides c.args.n m c.args.set).1 w))
+  abbrev No : ℕ → Type 0
+  No m = whole n m s ≡ false
+
+  found : (r : Option ℕ) → MatchOption r (AllWithin No ms 0 (length ms)) (λ m. Yes m × (i : ℕ) × (i < length ms) × HoldsAt (λ y. y ≡ m) ms i × AllWithin No ms 0 i)
+      → MatchOption r (NoneCompletes n ms s) (λ m. OneOf m ms × Whole n m s)
+  found None h = λ k l w. both_ways _ (h k 0 (omega arith) l) ((whole-decides n _ s).1 w)
+  found (Some m) h = ((h.1, h.2, h.3 0), (whole-decides n m s).0 h.0)
 
 pub returns : goal.returns
-returns c = λ k h. c.loop-m.invariant k (omega arith)
+returns c =
+    let n = c.args.n in
+    let s = c.args.set in
+    found n c.args.masks.now s c.find.result (first_from_find _ _ c.find.result (Yes n c.args.masks.now s) (No n c.args.masks.now s) c.find.ensures.ran
+    (YieldsList-from_copied (YieldsList-from_slice c.args.masks.now cc)) (λ m q k. search (rules, tests)) (λ m q k. search (rules, tests)))

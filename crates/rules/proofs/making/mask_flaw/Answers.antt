@@ -1,9 +1,23 @@
-use Rattle.std.proofs.Common.{◌+◌, ◌^◌, ◌≤◌, sym}
+use Rattle.std.proofs.Common.{◌≡◌, ℕ, ◌+◌, ◌^◌, ◌<◌, ◌≤◌, List, Option, Some, None, sym, subst, rules}
+use Rattle.std.specs.Option.{MatchOption, IsSomeAnd}
 use Rattle.std.proofs.lemmas.Bool.{ltb-true, ltb-false}
 use Rattle.sets.specs.Sets.{members}
 use Rattle.sets.proofs.Bounds.{among-lt, among-over}
+use Rattle.sets.specs.Sets.{Whole}
+use Rattle.rules.specs.declared.flaw.Flaw.{Flaw}
+use Rattle.rules.specs.declared.flaw.Flaw.TheVariants.{Together}
+use Rattle.rules.specs.Rules.{Sized}
+use Rattle.rules.specs.Flaws.{OneOf}
+use Rattle.rules.specs.Making.{NoneCompletes, Sound, Flawed}
 use Rattle.rules.specs.GroupLaws.{not_stranger, not_one_missing, not-together}
 use Rattle.rules.proofs.making.mask_flaw.Goals as goal
+
+together : (n : ℕ) (ms : List ℕ) (m : ℕ) → Sized n → (o : Option ℕ) (r : Option Flaw)
+    → MatchOption o (NoneCompletes n ms m) (λ a. OneOf a ms × Whole n a m) → MatchOption o (r ≡ None) (λ a. IsSomeAnd r (λ f. f ≡ Together a m))
+    → m < 2 ^ n → members m + 1 < n → MatchOption r (Sound n ms m) (λ f. OneOf m ms → Flawed n ms f)
+together n ms m sized None r h e l s = subst (λ r. MatchOption r (Sound n ms m) (λ f. OneOf m ms → Flawed n ms f)) (sym e) (l, s, h)
+together n ms m sized (Some a) None h e l s = elim e [ ]
+together n ms m sized (Some a) (Some f) h e l s = λ o. subst (Flawed n ms) (sym e) ((h.0, o, h.1), λ d. not-together n sized.1 ms d.0 d.1 a m h.0 o h.1)
 
 pub returns-then-not-among : goal.returns-then-not-among
 returns-then-not-among c = λ o.
@@ -15,11 +29,7 @@ returns-then-not-leaves_two c = λ o.
     let l : c.args.n ≤ members c.args.mask + 1 = ltb-false _ _ (sym c.if-not-leaves_two.ensures) in
     ((o, l), λ m. not_one_missing c.args.n c.requires.1 c.args.masks.now m.0 m.1 c.args.mask o l)
 
-pub returns-in-Some : goal.returns-in-Some
-returns-in-Some c = λ o.
-    let h = c.in-Some.ensures in
-    ((h.0, o, h.1), λ m. not-together c.args.n c.requires.1 c.args.masks.now m.0 m.1 c.in-Some.a c.args.mask h.0 o h.1)
-
-pub returns-in-None : goal.returns-in-None
-returns-in-None c =
-    (among-lt c.args.n c.args.mask (sym c.if-not-among.ensures), ltb-true _ _ (sym c.if-not-leaves_two.ensures), c.in-None.ensures)
+pub returns : goal.returns
+returns c =
+    together c.args.n c.args.masks.now c.args.mask c.requires c.completing.result c.map.result c.completing.ensures (search rules)
+    (among-lt c.args.n c.args.mask (sym c.if-not-among.ensures)) (ltb-true _ _ (sym c.if-not-leaves_two.ensures))

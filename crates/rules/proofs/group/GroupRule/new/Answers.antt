@@ -4,8 +4,8 @@ use Rattle.rules.proofs.group.GroupRule.new.Goals as goal
 
 pub invariant_of-result : goal.invariant_of-result
 invariant_of-result c = record {
-  few = omega arith;
   sized = (omega arith, omega arith);
-  below = λ k h. absurd (omega arith);
-  apart = no_masks_apart _ (omega arith) (omega arith);
+  few = rw c.new.ensures (omega arith);
+  below = rw c.new.ensures (λ k h. absurd (omega arith));
+  apart = rw c.new.ensures (no_masks_apart 3 (omega arith) (omega arith));
 }
