@@ -23,7 +23,7 @@ pub struct CountRule {
 
 impl CountRule {
     // The rule of these numbers, or what keeps them from making one.
-    fn made(n: u16, t: u16) -> Result<CountRule, Flaw>
+    fn lawful(n: u16, t: u16) -> Result<CountRule, Flaw>
         ensures { MatchResult result (λ c. CountMade n t × (c.n ≡ n) × (c.t ≡ t)) (λ f. CountFlaw n t f × (CountMade n t → ⊥)) }
     {
         let stations = station_count(n)?;
@@ -43,14 +43,14 @@ impl CountRule {
     pub fn flaw(n: u16, t: u16) -> Option<Flaw>
         ensures { MatchOption result (CountMade n t) (λ f. CountFlaw n t f × (CountMade n t → ⊥)) }
     {
-        CountRule::made(n, t).err()
+        CountRule::lawful(n, t).err()
     }
 
     // The rule of these numbers, or a refusal where they make none.
     pub fn new(n: u16, t: u16) -> Result<CountRule, Refusal>
         ensures { MatchResult result (λ c. CountMade n t × (c.n ≡ n) × (c.t ≡ t)) (λ e. (e ≡ UnlawfulRule) × (CountMade n t → ⊥)) }
     {
-        Ok(CountRule::made(n, t)?)
+        Ok(CountRule::lawful(n, t)?)
     }
 }
 

@@ -38,7 +38,7 @@ impl GroupRule {
     }
 
     // The rule of n and these masks, or what keeps them from making one.
-    fn made(n: u16, masks: &[u16]) -> Result<GroupRule, Flaw>
+    fn lawful(n: u16, masks: &[u16]) -> Result<GroupRule, Flaw>
         ensures { MatchResult result (λ q. GroupMade n masks.now × (q.n ≡ n) × (q.masks.items ≡ masks.now)) (λ f. GroupFlaw n masks.now f × (GroupMade n masks.now → ⊥)) }
     {
         let stations = station_count(n)?;
@@ -56,7 +56,7 @@ impl GroupRule {
     pub fn flaw(n: u16, masks: &[u16]) -> Option<Flaw>
         ensures { MatchOption result (GroupMade n masks.now) (λ f. GroupFlaw n masks.now f × (GroupMade n masks.now → ⊥)) }
     {
-        GroupRule::made(n, masks).err()
+        GroupRule::lawful(n, masks).err()
     }
 
     // Fills the rule with n and these masks, or refuses and leaves it as it was.
@@ -64,13 +64,14 @@ impl GroupRule {
         ensures made { MatchResult result (λ _. GroupMade n masks.now) (λ e. (e ≡ UnlawfulRule) × (GroupMade n masks.now → ⊥)) }
         ensures after { MatchResult result (λ _. (self.new.n ≡ n) × (self.new.masks.items ≡ masks.now)) (λ _. self.new ≡ self.old) }
     {
-        *self = GroupRule::made(n, masks)?;
+        *self = GroupRule::lawful(n, masks)?;
         Ok(())
     }
 }
 
 // Whether the set lies within one of the masks.
 // A loop by a rule of the project: one over the borrowed slice of masks decides whether a set lies within one of them.
+#[tactic(auto, using(crate::specs::GroupLaws::lies_from_place))]
 fn lies_within(masks: &[u16], set: u16) -> bool
     ensures { result ≡ lies masks.now set }
 {
@@ -109,6 +110,6 @@ impl Rule for GroupRule {
     }
 
     fn can_fail(&self, set: u16) -> bool {
-        among(set, self.n) & (is_single(set) | lies_within(self.masks.as_slice(), set))
+        among(set, self.n) & (is_single(set) | lies_within(&self.masks, set))
     }
 }

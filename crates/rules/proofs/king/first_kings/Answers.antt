@@ -8,12 +8,6 @@ use Rattle.rules.proofs.king.first_kings.Goals as goal
 pub loop-count-init : goal.loop-count-init
 loop-count-init g c = (omega arith, first-none (g.R.Rule.stations c.args.rule.now) c.args.caller, λ j h. absurd (omega arith))
 
-pub overflow_add-count : goal.overflow_add-count
-overflow_add-count g c = omega (arith, c.loop-count.invariant.0, (g.met.R.Rule.sized c.args.rule.now).1)
-
-pub loop-count-smaller : goal.loop-count-smaller
-loop-count-smaller g c = omega (arith, c.loop-count.invariant.0)
-
 pub loop-count-preserved : goal.loop-count-preserved
 loop-count-preserved g c =
     let r = c.args.rule.now in

@@ -1,5 +1,5 @@
 use Rattle.std.proofs.lemmas.Result.{err_from_is_err_and}
-use Rattle.rules.proofs.count.CountRule.made.Goals as goal
+use Rattle.rules.proofs.count.CountRule.lawful.Goals as goal
 
 pub returns-in_err-stations : goal.returns-in_err-stations
 returns-in_err-stations c = let p = err_from_is_err_and c.from_residual.result c.from_residual.ensures.1 in
