@@ -1,1 +1,1 @@
-mod Numerals
+pub mod Numerals
