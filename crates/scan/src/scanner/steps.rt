@@ -60,6 +60,7 @@ impl<'a> Scanner<'a> {
     }
 
     // Past the word if it stands next and no letter or digit follows it.
+    #[tactic(auto, using(crate::proofs::Words::words))]
     pub fn take_word(&mut self, word: &[u8]) -> bool
         ensures after { self.new.at ≡ (if result then self.old.at + length word.now else self.old.at) }
         ensures stood { result ≡ true → take (length word.now) (drop self.old.at self.old.text.now) ≡ word.now }
