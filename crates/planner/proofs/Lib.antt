@@ -1,1 +1,3 @@
 pub mod LargestLaws
+pub mod InclusiveRanges
+pub mod KingLists

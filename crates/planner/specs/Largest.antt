@@ -1,5 +1,6 @@
 -- The largest sets that can fail.
-use Rattle.std.specs.Prelude.{◌≡◌, ℕ, ◌<◌, Bool, true, ◌||◌, List, length, ◌==◌, slice_index}
+use Rattle.std.specs.Prelude.{◌≡◌, ℕ, ◌<◌, Bool, true, not, ◌&&◌, ◌||◌, List, length, ◌==◌, slice_index}
+use Rattle.std.specs.List.{list_all, range_with_len}
 use Rattle.sets.specs.Sets.{has, mask_of, Part}
 
 -- the set s with station i
@@ -15,3 +16,11 @@ pub record LargestSets (fails : ℕ → Bool) (ms : List ℕ) : Type 0 where
   pub each : (k : ℕ) → k < length ms → Largest fails (slice_index ms k)
   pub all : (s : ℕ) → Largest fails s → (k : ℕ) × (k < length ms) × (slice_index ms k ≡ s)
   pub rising : (i j : ℕ) → i < j → j < length ms → slice_index ms i < slice_index ms j
+
+-- whether station i is not in s, and s with it can fail
+abbrev pub may_join : (ℕ → Bool) → ℕ → ℕ → Bool
+may_join fails s i = not (has s i) && fails (with_station s i)
+
+-- the test of a largest set of n stations, station by station: it can fail, and none of them may join
+abbrev pub none_may_join : ℕ → (ℕ → Bool) → ℕ → Bool
+none_may_join n fails s = fails s && list_all (λ i. not (may_join fails s i)) (range_with_len 0 n)

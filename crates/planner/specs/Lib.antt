@@ -1,3 +1,2 @@
 pub mod Largest
 pub mod Plans
-pub mod Reports

@@ -2,7 +2,4 @@
 #![tactic(auto)]
 
 pub mod largest;
-pub mod line;
 pub mod plan;
-pub mod report;
-mod scan;

@@ -1,1 +1,2 @@
-mod Numerals
+pub mod Numerals
+pub mod Words

@@ -6,6 +6,7 @@ pub mod stations;
 pub mod steps;
 
 // The bytes of a line, and the place up to which they are read.
+// A slice of what is left to read would be no plainer: columns need the count beside it.
 #[derive(Drop)]
 pub struct Scanner<'a> {
     text: &'a [u8],

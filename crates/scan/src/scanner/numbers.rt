@@ -1,50 +1,26 @@
 // Numbers in a line of text.
-ghost use Rattle.std.specs.Prelude.{◌≡◌, ℕ, ◌+◌, ◌-◌, ◌*◌, ◌<◌, ◌≤◌, Bool, cond, ◌&&◌, length, MatchOption, slice_index};
-ghost use Rattle.scan.specs.Numbers.{is_from, digit_value, numeral};
+ghost use Rattle.std.specs.Prelude.{◌≡◌, ℕ, ◌+◌, ◌-◌, ◌*◌, ◌<◌, ◌≤◌, Bool, true, length, MatchOption, slice_index};
+ghost use Rattle.scan.specs.Numbers.{digit_value, numeral, NoDigit};
 
 use crate::scanner::Scanner;
 
-// Whether a byte is one of those from `first` to `last`.
-fn is_from(first: u8, last: u8, byte: u8) -> bool
-    ensures { result ≡ is_from first last byte }
-{
-    (first <= byte) & (byte <= last)
-}
-
-// The value of a digit, 0 to 15; 255 where the byte is no digit.
-fn digit_value(byte: u8) -> u8
-    ensures { result ≡ digit_value byte }
-{
-    if is_from(b'0', b'9', byte) {
-        byte - b'0'
-    } else if is_from(b'A', b'F', byte) {
-        byte - b'A' + 10
-    } else if is_from(b'a', b'f', byte) {
-        byte - b'a' + 10
-    } else {
-        255
-    }
-}
-
 impl Scanner<'_> {
     // Past the digit of this radix that stands next, with its value.
-    fn take_digit(&mut self, radix: u8) -> Option<u8>
-        ensures value { MatchOption result (self.new.at ≡ self.old.at) (λ d. (d ≡ digit_value (slice_index self.old.text.now self.old.at)) × (self.new.at ≡ self.old.at + 1)) }
+    #[tactic(auto, using(crate::proofs::Numerals::digits))]
+    fn take_digit(&mut self, radix: u32) -> Option<u32>
+        requires { (10 ≤ radix) × (radix ≤ 16) }
+        ensures value { MatchOption result (NoDigit radix self.old.text.now self.old.at × (self.new.at ≡ self.old.at)) (λ d. (d ≡ digit_value (slice_index self.old.text.now self.old.at)) × (self.new.at ≡ self.old.at + 1)) }
         ensures same { self.new.text.now ≡ self.old.text.now }
     {
-        if self.at >= self.text.len() {
-            return None;
-        }
-        let digit = digit_value(self.text[self.at]);
-        if digit >= radix {
-            return None;
-        }
+        let byte = *self.text.get(self.at)?;
+        let digit = char::from(byte).to_digit(radix)?;
         self.at += 1;
         Some(digit)
     }
 
     // The value of the digits that stand next, none of them for 0; nothing where it is over `most`.
-    fn digits(&mut self, radix: u8, most: u64) -> Option<u64>
+    fn digits(&mut self, radix: u32, most: u64) -> Option<u64>
+        requires { (10 ≤ radix) × (radix ≤ 16) }
         ensures value { MatchOption result (self.old.at ≤ self.new.at) (λ v. (self.old.at ≤ self.new.at) × (v ≤ most) × (v ≡ numeral radix self.old.text.now self.old.at (self.new.at - self.old.at))) }
         ensures same { self.new.text.now ≡ self.old.text.now }
     {

@@ -25,9 +25,7 @@ impl Scanner<'_> {
         let mut set = 0;
         loop {
             self.skip_blanks();
-            let Some(station) = self.number(15) else {
-                return Err(SetFault::Station);
-            };
+            let station = self.number(15).ok_or(SetFault::Station)?;
             set = with(set, station as u8);
             self.skip_blanks();
             if self.take_byte(b'}') {

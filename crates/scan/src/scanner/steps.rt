@@ -1,5 +1,5 @@
 // Steps over single bytes, blanks and words.
-ghost use Rattle.std.specs.Prelude.{◌≡◌, ℕ, ◌+◌, ◌<◌, ◌≤◌, Bool, true, ◌||◌, length, if◌then◌else◌, nat_le};
+ghost use Rattle.std.specs.Prelude.{◌≡◌, ℕ, ◌+◌, ◌<◌, ◌≤◌, Bool, true, ◌||◌, length, take, drop, if◌then◌else◌, nat_le};
 ghost use Rattle.scan.specs.Steps.{stands_at};
 
 use crate::scanner::Scanner;
@@ -12,7 +12,7 @@ impl<'a> Scanner<'a> {
         Scanner { text, at: 0 }
     }
 
-    // How many bytes the line has. Each turn of a loop that reads on takes one at least.
+    // How many bytes the line has.
     pub fn len(&self) -> usize
         ensures { result ≡ length self.now.text.now }
     {
@@ -30,7 +30,7 @@ impl<'a> Scanner<'a> {
     pub fn is_next(&self, byte: u8) -> bool
         ensures { result ≡ stands_at self.now.text.now self.now.at byte }
     {
-        self.at < self.text.len() && self.text[self.at] == byte
+        self.text.get(self.at) == Some(&byte)
     }
 
     // Past the next byte if it is this one.
@@ -47,43 +47,33 @@ impl<'a> Scanner<'a> {
         }
     }
 
-    // Past one space, tab or carriage return if it stands next.
-    fn take_blank(&mut self) -> bool
-        ensures after { self.new.at ≡ (if result then self.old.at + 1 else self.old.at) }
-        ensures same { self.new.text.now ≡ self.old.text.now }
-    {
-        self.take_byte(b' ') || self.take_byte(b'\t') || self.take_byte(b'\r')
-    }
-
     // Past spaces, tabs and carriage returns.
     pub fn skip_blanks(&mut self)
         ensures onward { self.old.at ≤ self.new.at }
         ensures same { self.new.text.now ≡ self.old.text.now }
     {
-        while self.take_blank() {}
-    }
-
-    // Whether a letter or digit stands next.
-    fn in_word(&self) -> bool {
-        self.at < self.text.len() && self.text[self.at].is_ascii_alphanumeric()
+        let rest = &self.text[self.at..];
+        self.at += rest
+            .iter()
+            .take_while(|b| matches!(b, b' ' | b'\t' | b'\r'))
+            .count();
     }
 
     // Past the word if it stands next and no letter or digit follows it.
+    #[tactic(auto, using(crate::proofs::Words::words))]
     pub fn take_word(&mut self, word: &[u8]) -> bool
         ensures after { self.new.at ≡ (if result then self.old.at + length word.now else self.old.at) }
+        ensures stood { result ≡ true → take (length word.now) (drop self.old.at self.old.text.now) ≡ word.now }
         ensures same { self.new.text.now ≡ self.old.text.now }
     {
-        let start = self.at;
-        for b in word {
-            if !self.take_byte(*b) {
-                self.at = start;
-                return false;
-            }
-        }
-        if self.in_word() {
-            self.at = start;
+        let rest = &self.text[self.at..];
+        let Some(after) = rest.strip_prefix(word) else {
+            return false;
+        };
+        if after.first().is_some_and(|b| b.is_ascii_alphanumeric()) {
             return false;
         }
+        self.at += word.len();
         true
     }
 

@@ -1,24 +1,19 @@
-use Rattle.std.proofs.Common.{◌≡◌, ◌<◌, true, false, sym, refl, subst, arith}
-use Rattle.std.proofs.lemmas.Bool.{both_ways}
-use Rattle.planner.proofs.LargestLaws.{none_joins, one_joins}
+use Rattle.std.proofs.Common.{◌≡◌, true, not, refl, arith, rules}
+use borrow.Author.Tests.{tests}
+use Rattle.std.specs.List.{list_all, range_with_len}
+use Rattle.std.proofs.lemmas.Iterator.{YieldsList-from_range}
+use Rattle.std.proofs.lemmas.Iterator.Search.{all_from_yields_List}
+use Rattle.planner.specs.Largest.{may_join, none_may_join}
+use Rattle.planner.proofs.LargestLaws.{largest_by_stations}
 use Rattle.planner.proofs.largest.is_largest.Goals as goal
 
-pub returns-then-may_join : goal.returns-then-may_join
-returns-then-may_join g c =
+pub returns-then-can_fail : goal.returns-then-can_fail
+returns-then-can_fail g c =
     let r = c.args.rule.now in
     let met = g.met.R.Rule in
-    let can : g.R.Rule.fails r c.args.set ≡ true = sym c.if-not-can_fail.ensures in
-    let l : c.loop-i.i < g.R.Rule.stations r = subst (λ x. c.loop-i.i < x) c.n-i-end.ensures c.loop-i-test.true in (
-      λ e. absurd (both_ways false refl e),
-      λ p. absurd (one_joins (g.R.Rule.stations r) (met.sized r).1 (g.R.Rule.fails r) (met.own r) (met.part r) c.args.set can c.loop-i.i l (sym c.if-may_join.ensures) p),
-    )
-
-pub returns : goal.returns
-returns g c =
-    let r = c.args.rule.now in
-    let met = g.met.R.Rule in
-    let can : g.R.Rule.fails r c.args.set ≡ true = sym c.if-not-can_fail.ensures in (
-      λ _. none_joins (g.R.Rule.stations r) (met.sized r).1 (g.R.Rule.fails r) (met.own r) (met.part r) c.args.set can
-          (λ i l. c.loop-i.invariant i (omega (arith, c.n-i-end.ensures))),
-      λ _. refl,
-    )
+    let fails = g.R.Rule.fails r in
+    let can : true ≡ fails c.args.set = c.if-can_fail.ensures in
+    let none : c.all.result ≡ list_all (λ i. not (may_join fails c.args.set i)) (range_with_len 0 c.n.result) =
+    all_from_yields_List (λ i. not (may_join fails c.args.set i)) _ _ c.all.result c.all.ensures.ran (YieldsList-from_range 0 c.n.result c.n.result refl (omega arith)) (λ x b q k. search (rules, tests)) in
+    let value : c.all.result ≡ none_may_join (g.R.Rule.stations r) fails c.args.set = rw (← can, ← c.n.ensures) none in
+    record { value = value; meaning = rw value (largest_by_stations (g.R.Rule.stations r) (met.sized r).1 fails (met.own r) (met.part r) c.args.set) }

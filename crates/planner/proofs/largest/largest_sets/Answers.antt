@@ -1,28 +1,22 @@
-use Rattle.std.proofs.Common.{◌≡◌, ◌+◌, ◌^◌, ltb, vec_items, sym, ap, ◌∙◌, subst, arith}
+use Rattle.std.proofs.Common.{◌≡◌, ◌+◌, ◌^◌, ltb, sym, ap, ◌∙◌, subst, arith, rules}
+use borrow.Author.Tests.{tests}
+use Rattle.std.proofs.lemmas.Result.{IfOk-weaker}
+use Rattle.std.proofs.lemmas.Iterator.{items_from_collect}
+use Rattle.std.proofs.lemmas.Iterator.Consumers.{YieldsList-from_filter, YieldsList-at}
 use Rattle.sets.specs.Sets.{mask_of}
-use Rattle.std.proofs.lemmas.Bool.{both_ways}
-use Rattle.planner.proofs.LargestLaws.{FoundBelow, found_skips, found_joins, found_all, all-is}
+use Rattle.planner.specs.Largest.{LargestSets, none_may_join}
+use Rattle.planner.proofs.InclusiveRanges.{YieldsList-from_inclusive}
+use Rattle.planner.proofs.LargestLaws.{filtered, all-is}
 use Rattle.planner.proofs.largest.largest_sets.Goals as goal
-use Rattle.planner.proofs.largest.largest_sets.Goals.{then-is_largest+in_ok-push, else-is_largest}
-
-pub loop-set-preserved : goal.loop-set-preserved
-loop-set-preserved g c =
-    let fails = g.R.Rule.fails c.args.rule.now in
-    let m = c.loop-set.set in
-    let ms = vec_items c.loop-set.sets in
-    elim c.if-is_largest.branch [
-      | then-is_largest+in_ok-push w ↦
-          subst (FoundBelow fails (m + 1)) (sym (ap vec_items w.sets-is ∙ w.in_ok-push.ensures.items))
-          (found_joins fails m ms c.loop-set.invariant (c.is_largest.ensures.0 w.if-is_largest.true))
-      | else-is_largest w ↦
-          subst (FoundBelow fails (m + 1)) (sym (ap vec_items w.sets-is))
-          (found_skips fails m ms c.loop-set.invariant (λ p. both_ways c.is_largest.result w.if-is_largest.false (c.is_largest.ensures.1 p)))
-    ]
 
 pub returns : goal.returns
 returns g c =
     let r = c.args.rule.now in
     let met = g.met.R.Rule in
     let n = g.R.Rule.stations r in
-    let e : c.all-last.result + 1 ≡ 2 ^ n = ap (λ x. x + 1) (c.all-last.ensures ∙ ap (λ m. mask_of 16 (λ j. ltb j m)) c.n.ensures) ∙ all-is n (met.sized r).1 in
-    found_all n c.loop-set.set (g.R.Rule.fails r) (vec_items c.loop-set.sets) (met.own r) (omega (arith, e, c.from-set-end.ensures, c.loop-set-test.false)) c.loop-set.invariant
+    let fails = g.R.Rule.fails r in
+    let masks = YieldsList-at c.filter.ensures.source (YieldsList-from_inclusive c.all.result c.new.ensures.start c.new.ensures.end c.new.ensures.exhausted) in
+    let last : c.all.result + 1 ≡ 2 ^ n = ap (λ x. x + 1) (c.all.ensures ∙ ap (λ m. mask_of 16 (λ j. ltb j m)) c.n.ensures) ∙ all-is n (met.sized r).1 in
+    IfOk-weaker c.collect.result _ _
+    (λ v e. subst (LargestSets fails) (sym e) (filtered n (c.all.result + 1) (met.sized r).1 (omega (arith, last)) fails (met.own r) (met.part r)))
+    (items_from_collect c.collect.result c.collect.ensures.ran (YieldsList-from_filter _ (none_may_join n fails) masks c.filter.ensures.closure (λ x b q k. search (rules, tests))))
