@@ -116,7 +116,7 @@ fn push_blob(line: &mut String, b: &[u8]) -> Result<(), AllocError>
 }
 
 // Appends an argument.
-fn push_value(line: &mut String, heap: Global, argument: Argument<'_>) -> Result<(), AllocError>
+fn push_value(line: &mut String, heap: Global, argument: Argument<&[u8]>) -> Result<(), AllocError>
     ensures { OnOk result (string_bytes line.new ≡ string_bytes line.old ++ value_bytes (value argument.entry)) }
 {
     match argument {
@@ -127,7 +127,7 @@ fn push_value(line: &mut String, heap: Global, argument: Argument<'_>) -> Result
 }
 
 // Appends an argument behind a space.
-fn push_argument(line: &mut String, heap: Global, argument: Argument<'_>) -> Result<(), AllocError>
+fn push_argument(line: &mut String, heap: Global, argument: Argument<&[u8]>) -> Result<(), AllocError>
     ensures { OnOk result (string_bytes line.new ≡ string_bytes line.old ++ argument_bytes (value argument.entry)) }
 {
     push_ascii(line, b' ')?;
