@@ -98,14 +98,10 @@ impl fmt::Display for Shown<'_> {
     fn fmt<W: fmt::Write>(&self, f: &mut fmt::Formatter<W>) -> fmt::Result {
         match self.0 {
             Argument::Number(n) => write!(f, "{n}"),
-            Argument::Text(bytes) => write!(
-                f,
-                "\"{}\"",
-                Chars {
-                    low: TEXT_LOW,
-                    bytes
-                }
-            ),
+            Argument::Text(bytes) => {
+                let low = TEXT_LOW;
+                write!(f, "\"{}\"", Chars { low, bytes })
+            }
             Argument::Blob(bytes) => write!(f, "0x{}", Digits(bytes)),
         }
     }
