@@ -3,7 +3,7 @@ use Rattle.std.specs.Prelude.{◌≡◌, ℕ, ◌+◌, ◌<◌, ◌≤◌, ◌�
 use Rattle.std.specs.List.{between, AllByRecursion}
 use Rattle.refusals.specs.declared.Refusal.{Refusal}
 use Rattle.refusals.specs.declared.Refusal.TheVariants.{BrokenLayout, BufferTooShort}
-use Rattle.packets.specs.Osc.{Value, number, text, blob, Field, Content, Encoding, Means}
+use Rattle.packets.specs.Osc.{Value, Field, Content, Encoding, Means}
 use Rattle.packets.specs.Encode.{field_bytes, encode}
 use Rattle.packets.specs.Read.{value_by, Says, Answers}
 use Rattle.packets.specs.declared.message.Message.{Message}

@@ -133,7 +133,10 @@ fn read_blob<'a>(bytes: &'a [u8]) -> Option<(&'a [u8], &'a [u8])>
 }
 
 // The argument that a type tag names, and what stands behind it.
-pub(crate) fn read_argument<'a>(letter: u8, bytes: &'a [u8]) -> Option<(Argument<&'a [u8]>, &'a [u8])>
+pub(crate) fn read_argument<'a>(
+    letter: u8,
+    bytes: &'a [u8],
+) -> Option<(Argument<&'a [u8]>, &'a [u8])>
     ensures { MatchOption result ((v : Value) (rest : List ℕ) → tag v ≡ letter → Field v bytes.now rest → ⊥) (λ p. (tag (value p.0) ≡ letter) × Field (value p.0) bytes.now p.1.now) }
 {
     match char::from(letter) {
@@ -159,10 +162,10 @@ pub(crate) fn fit(tags: &[u8], fields: &[u8]) -> bool
 {
     let mut rest = fields;
     for letter in tags {
-        match read_argument(*letter, rest) {
-            Some((_, more)) => rest = more,
-            None => return false,
-        }
+        let Some((_, more)) = read_argument(*letter, rest) else {
+            return false;
+        };
+        rest = more;
     }
     rest.is_empty()
 }

@@ -4,8 +4,7 @@ ghost use Rattle.packets.specs.Osc.{Value, tag};
 ghost use Rattle.packets.specs.Read.{value, Left, left_count, Reads, Meaningless, Answers};
 
 use super::fields::{
-    Argument, behind_byte, cut_text, fit, read_argument, read_text, within_packet,
-    zero_at,
+    Argument, behind_byte, cut_text, fit, read_argument, read_text, within_packet, zero_at,
 };
 use refusals::Refusal;
 

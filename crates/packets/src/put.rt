@@ -1,4 +1,5 @@
-// The parts of a message, each written at a place of the buffer that is long enough.
+// The parts of a message, each written at a place of the buffer that is long enough. The buffer
+// and the place are no struct: each function would owe one clause more, that it keeps the buffer.
 ghost use Rattle.std.specs.Prelude.{◌≡◌, ◌+◌, ◌^◌, ◌<◌, ◌≤◌, ◌∷◌, map, length, replicate};
 ghost use Rattle.std.specs.List.{flat_map};
 ghost use Rattle.packets.specs.Encode.{text_bytes, blob_bytes};
