@@ -72,10 +72,7 @@ mod tests {
     }
 
     fn is_broken(packet: &[u8]) -> bool {
-        match read_message(packet) {
-            Ok(_) => false,
-            Err(refusal) => refusal == Refusal::BrokenLayout,
-        }
+        matches!(read_message(packet), Err(Refusal::BrokenLayout))
     }
 
     #[test]

@@ -1,8 +1,13 @@
--- One text appended behind another. Assumes nothing.
-use Rattle.std.proofs.Common.{◌≡◌, ℕ, ◌+◌, ◌<◌, ◌≤◌, true, false, cond, List, [], ◌∷◌, ◌++◌, length, get_or, take, is_ok, IfOk, Ok, Err, string_bytes, codes, decimal, Result, String, sym, ap, ◌∙◌, arith}
-use Rattle.std.proofs.lemmas.List.{append_assoc, flat_map_more, take_more, take_all}
+-- What is written of a byte, of a string, of a packet. Assumes nothing.
+use Rattle.std.proofs.Common.{◌≡◌, ℕ, ◌+◌, ◌-◌, ◌^◌, ◌<◌, true, false, cond, List, [], ◌∷◌, ◌++◌, length, get_or, take, IfOk, Ok, Err, Some, string_bytes, codes, decimal, Result, String, sym, ap, ◌∙◌, arith}
+use Rattle.std.proofs.lemmas.List.{flat_map_more, take_more}
+use Rattle.std.proofs.lemmas.Bool.Decides.{nat_tests}
+use Rattle.std.proofs.lemmas.Str.Ascii.{encode_ascii}
+use Rattle.std.proofs.lemmas.Fmt.{decimal_digit, hex_byte as two_digits}
 use Rattle.std.specs.List.{flat_map}
-use Rattle.std.proofs.lemmas.Fmt.{decimal_digit}
+use Rattle.std.specs.Option.{option_map}
+use Rattle.std.specs.Fmt.{digits, digits_output, styled_digits_output, padded_integral, format_spec}
+use lib.Utf8.{encode}
 use Rattle.refusals.specs.declared.Refusal.{Refusal}
 use Rattle.refusals.specs.declared.Refusal.TheVariants.{BrokenLayout}
 use Rattle.refusals.specs.Refusals.{number_of}
@@ -11,43 +16,35 @@ use Rattle.packets.specs.Read.{Says, Reads, Meaningless}
 use Rattle.packets.specs.declared.message.Message.{Message}
 use Rattle.packetdump.specs.Lines.{hex_byte, marked, itself, char_bytes, message_line, Shows}
 
--- what one call appends
-pub made_push : {X E : Type 0} (r : Result X E) (was now xs ys : List ℕ) → now ≡ cond (is_ok r) (was ++ xs) was → xs ≡ ys → IfOk r (λ _. now ≡ was ++ ys)
-made_push (Ok x) was now xs ys e f = e ∙ ap (λ z. was ++ z) f
-made_push (Err y) was now xs ys e f = tt
+-- a byte that is shown behind a '\', or as itself, is its own text
+marked_ascii : (b : ℕ) → marked b ≡ true → b < 128
+marked_ascii b e = grind (arith, nat_tests)
 
-pub made-same : {X E : Type 0} (r : Result X E) (was now xs ys : List ℕ) → IfOk r (λ _. now ≡ was ++ xs) → xs ≡ ys → IfOk r (λ _. now ≡ was ++ ys)
-made-same (Ok x) was now xs ys h f = h ∙ ap (λ z. was ++ z) f
-made-same (Err y) was now xs ys h f = tt
+itself_ascii : (low b : ℕ) → itself low b ≡ true → b < 128
+itself_ascii low b e = grind (arith, nat_tests)
 
--- what two calls append
-pub appended : (was mid next xs ys zs : List ℕ) → mid ≡ was ++ xs → next ≡ mid ++ ys → xs ++ ys ≡ zs → next ≡ was ++ zs
-appended was mid next xs ys zs e h f = h ∙ ap (λ z. z ++ ys) e ∙ append_assoc was xs ys ∙ ap (λ z. was ++ z) f
-
-pub made_then : {X E : Type 0} (r : Result X E) (was mid now xs ys zs : List ℕ) → mid ≡ was ++ xs → IfOk r (λ _. now ≡ mid ++ ys) → xs ++ ys ≡ zs → IfOk r (λ _. now ≡ was ++ zs)
-made_then (Ok x) was mid now xs ys zs e h f = appended was mid now xs ys zs e h f
-made_then (Err y) was mid now xs ys zs e h f = tt
-
-pub char_marked : (low b : ℕ) → marked b ≡ true → char_bytes low b ≡ 92 ∷ b ∷ []
+pub char_marked : (low b c : ℕ) → c ≡ b → marked b ≡ true → 92 ∷ encode c ≡ char_bytes low b
 unfolding char_bytes
-char_marked low b e = ap (λ t. cond t (92 ∷ b ∷ []) (cond (itself low b) (b ∷ []) (92 ∷ 120 ∷ hex_byte b))) e
+char_marked low b c f e =
+    ap (λ x. 92 ∷ encode x) f ∙ ap (λ x. 92 ∷ x) (encode_ascii b (marked_ascii b e)) ∙ ap (λ t. cond t (92 ∷ b ∷ []) (cond (itself low b) (b ∷ []) (92 ∷ 120 ∷ hex_byte b))) (sym e)
 
-pub char_itself : (low b : ℕ) → marked b ≡ false → itself low b ≡ true → char_bytes low b ≡ b ∷ []
+pub char_itself : (low b c : ℕ) → c ≡ b → marked b ≡ false → itself low b ≡ true → encode c ≡ char_bytes low b
 unfolding char_bytes
-char_itself low b e f = (λ i. cond (e i) (92 ∷ b ∷ []) (cond (f i) (b ∷ []) (92 ∷ 120 ∷ hex_byte b)))
+char_itself low b c g e f =
+    ap encode g ∙ encode_ascii b (itself_ascii low b f) ∙ (λ i. cond (sym e i) (92 ∷ b ∷ []) (cond (sym f i) (b ∷ []) (92 ∷ 120 ∷ hex_byte b)))
 
-pub char_hex : (low b : ℕ) → marked b ≡ false → itself low b ≡ false → char_bytes low b ≡ 92 ∷ 120 ∷ hex_byte b
+pub char_hex : (low b : ℕ) → marked b ≡ false → itself low b ≡ false → 92 ∷ 120 ∷ hex_byte b ≡ char_bytes low b
 unfolding char_bytes
-char_hex low b e f = (λ i. cond (e i) (92 ∷ b ∷ []) (cond (f i) (b ∷ []) (92 ∷ 120 ∷ hex_byte b)))
+char_hex low b e f = (λ i. cond (sym e i) (92 ∷ b ∷ []) (cond (sym f i) (b ∷ []) (92 ∷ 120 ∷ hex_byte b)))
 
--- a loop that appends f of one byte after another
-module _ (f : ℕ → List ℕ) (xs : List ℕ) (was : List ℕ) where
-  pub joined_step : (i : ℕ) → i < length xs → (line next : List ℕ) → line ≡ was ++ flat_map f (take i xs) → next ≡ line ++ f (get_or xs i 0) → next ≡ was ++ flat_map f (take (i + 1) xs)
-  joined_step i l line next e h =
-      h ∙ ap (λ z. z ++ f (get_or xs i 0)) e ∙ flat_map_more f was (take i xs) (get_or xs i 0) ∙ ap (λ z. was ++ flat_map f z) (sym (take_more xs i 0 l))
+-- what `{:02x}` writes of a byte
+pub hex_shown : (d : _) (s : _) (n : ℕ) → n < 256 → s ≡ format_spec 32 0 4 2 (2 ^ 64 - 1) → digits_output d ≡ Some (digits 16 false n) → styled_digits_output d s ≡ Some (hex_byte n)
+hex_shown d s n l e f =
+    ap (λ t. styled_digits_output d t) e ∙ ap (option_map (padded_integral (format_spec 32 0 4 2 (2 ^ 64 - 1)) false [])) f ∙ ap Some (two_digits false n l)
 
-  pub joined_end : (i : ℕ) → length xs ≤ i → (line : List ℕ) → line ≡ was ++ flat_map f (take i xs) → line ≡ was ++ flat_map f xs
-  joined_end i l line e = e ∙ ap (λ z. was ++ flat_map f z) (take_all i xs l)
+-- one more byte, of which f is shown
+pub joined_more : (f : ℕ → List ℕ) (xs : List ℕ) (i : ℕ) → i < length xs → flat_map f (take i xs) ++ f (get_or xs i 0) ≡ flat_map f (take (i + 1) xs)
+joined_more f xs i l = flat_map_more f [] (take i xs) (get_or xs i 0) ∙ ap (flat_map f) (sym (take_more xs i 0 l))
 
 -- what a packet that was read is shown as
 pub message_shows : {Z E : Type 0} (r : Result (String Z) E) (packet : List ℕ) (m : Message) → Reads packet m → ((c : Content) → Says m c → IfOk r (λ s. string_bytes s ≡ message_line c)) → IfOk r (λ s. Shows packet (string_bytes s))

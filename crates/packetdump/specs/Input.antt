@@ -1,21 +1,20 @@
 -- What a stream of sizes and packets gives next. Assumes nothing.
-use Rattle.std.specs.Prelude.{◌≡◌, ℕ, List, ◌≢◌}
+use Rattle.std.specs.Prelude.{◌≡◌, ℕ, List, [], length, ◌≢◌, Option, Some, None, Result, Ok, Err, Vec, vec_len}
 use Rattle.packets.specs.Stream.{PacketSize, Announces}
-use Rattle.packetdump.specs.declared.input.Head.{Head}
-use Rattle.packetdump.specs.declared.input.Head.TheVariants.{End, Cut, Bad, Size}
-use Rattle.packetdump.specs.declared.input.Next.{Next}
-use Rattle.packetdump.specs.declared.input.Next.TheVariants.{Packet, Nothing, Broken}
+use Rattle.packetdump.specs.declared.input.Ending.{Ending}
+use Rattle.packetdump.specs.declared.input.Ending.TheVariants.{Size, InSize, InPacket, Io}
 
--- what the place of a size holds, where got of its four bytes came before the stream ended:
--- the end of the stream, a part of a size, four bytes that are no packet's size, or one's size
-abbrev pub HeadOf : ℕ → List ℕ → Head → Type 0
-HeadOf got bytes End = got ≡ 0
-HeadOf got bytes Cut = (got ≢ 0) × (got ≢ 4)
-HeadOf got bytes Bad = (got ≡ 4) × ((n : ℕ) → Announces bytes n → ⊥)
-HeadOf got bytes (Size n) = (got ≡ 4) × Announces bytes n
+-- what the place of a size holds, where these of its four bytes came before the stream ended:
+-- one's size, the end of the stream, four bytes that are no packet's size, or a part of a size
+abbrev pub HeadOf : List ℕ → Result (Option ℕ) Ending → Type 0
+HeadOf bytes (Ok (Some n)) = Announces bytes n
+HeadOf bytes (Ok None) = bytes ≡ []
+HeadOf bytes (Err Size) = (length bytes ≡ 4) × ((n : ℕ) → Announces bytes n → ⊥)
+HeadOf bytes (Err InSize) = (length bytes ≢ 0) × (length bytes ≢ 4)
+HeadOf bytes (Err InPacket) = ⊥
+HeadOf bytes (Err (Io e)) = ⊥
 
 -- a packet that was taken has a size that packets have
-abbrev pub Sized : Next → Type 0
-Sized (Packet n) = PacketSize n
-Sized Nothing = Unit {0}
-Sized (Broken e) = Unit {0}
+abbrev pub Sized : {A : Type 0} → Option (Vec ℕ A) → Type 0
+Sized (Some packet) = PacketSize (vec_len packet)
+Sized None = Unit {0}

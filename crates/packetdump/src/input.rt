@@ -1,105 +1,63 @@
 // Packets taken from a stream, one at a time.
-ghost use Rattle.std.specs.Prelude.{◌≤◌, length, IfOk};
+ghost use Rattle.std.specs.Prelude.{IfOk};
 ghost use Rattle.packetdump.specs.Input.{HeadOf, Sized};
 
 use packets::packet_size;
+use std::alloc::Global;
+use std::io;
 use std::io::Read;
-use std::{fmt, io};
-
-// How many bytes the longest packet has.
-pub(crate) const MAX_PACKET: usize = 4096;
-
-// What stands at the place of a size.
-#[derive(Clone, Copy)]
-enum Head {
-    // the end of the stream
-    End,
-    // the end of the stream inside the size
-    Cut,
-    // four bytes that are no packet's size
-    Bad,
-    // the size of the packet behind it
-    Size(usize),
-}
+use thiserror::Error;
 
 // Why a stream cannot be read further.
-#[derive(Clone, Copy)]
+#[derive(Debug, Drop, Error)]
 pub(crate) enum Ending {
     // a size that no packet has
+    #[error("a size is no multiple of 4 from 4 to 4096")]
     Size,
     // the end inside a size
+    #[error("the stream ends inside a size")]
     InSize,
     // the end inside a packet
+    #[error("the stream ends inside a packet")]
     InPacket,
+    // what the system says
+    #[error(transparent)]
+    Io(#[from] io::Error),
 }
 
-impl fmt::Display for Ending {
-    fn fmt<W: fmt::Write>(&self, f: &mut fmt::Formatter<W>) -> fmt::Result {
-        match self {
-            Ending::Size => f.write_str("a size is no multiple of 4 from 4 to 4096"),
-            Ending::InSize => f.write_str("the stream ends inside a size"),
-            Ending::InPacket => f.write_str("the stream ends inside a packet"),
-        }
-    }
-}
-
-// What a stream gives next.
-#[derive(Clone, Copy)]
-pub(crate) enum Next {
-    // a packet of so many bytes, now at the front of the buffer
-    Packet(usize),
-    // nothing more
-    Nothing,
-    // what cannot be read
-    Broken(Ending),
-}
-
-// What stands at the place of a size, where `got` of its four bytes came.
-fn head_of(got: usize, bytes: [u8; 4]) -> Head
-    ensures value { HeadOf got bytes result }
+// The size that four bytes are, or `None` where the stream ended in front of them.
+fn head_of(bytes: &[u8]) -> Result<Option<usize>, Ending>
+    ensures value { HeadOf bytes.now result }
 {
-    match got {
-        0 => Head::End,
-        4 => match packet_size(bytes) {
-            Ok(n) => Head::Size(n),
-            Err(_) => Head::Bad,
+    match bytes {
+        [] => Ok(None),
+        [a, b, c, d] => match packet_size([*a, *b, *c, *d]) {
+            Ok(n) => Ok(Some(n)),
+            Err(_) => Err(Ending::Size),
         },
-        _ => Head::Cut,
+        _ => Err(Ending::InSize),
     }
 }
 
-// Fills the buffer from the stream, and says how many bytes came before the stream ended.
-fn fill<R: Read>(input: &mut R, buffer: &mut [u8]) -> io::Result<usize>
-    ensures within { IfOk result (λ n. n ≤ length buffer.old) }
-{
-    let mut have = 0;
-    while have < buffer.len() {
-        let got = input.read(&mut buffer[have..])?;
-        if got == 0 {
-            break;
-        }
-        have += got;
-    }
-    Ok(have)
+// The next so many bytes of the stream, or all that are left.
+fn take<R: Read>(heap: Global, input: &mut R, most: usize) -> io::Result<Vec<u8>> {
+    let mut bytes = Vec::new(heap);
+    input.by_ref().take(most as u64).read_to_end(&mut bytes)?;
+    Ok(bytes)
 }
 
-// Takes the next packet of the stream to the front of the buffer.
-pub(crate) fn next_packet<R: Read>(input: &mut R, buffer: &mut [u8; MAX_PACKET]) -> io::Result<Next>
+// The next packet of the stream, or `None` behind the last.
+pub(crate) fn next_packet<R: Read>(heap: Global, input: &mut R) -> Result<Option<Vec<u8>>, Ending>
     ensures within { IfOk result Sized }
 {
-    let mut bytes = [0u8; 4];
-    let got = fill(input, &mut bytes)?;
-    match head_of(got, bytes) {
-        Head::End => Ok(Next::Nothing),
-        Head::Cut => Ok(Next::Broken(Ending::InSize)),
-        Head::Bad => Ok(Next::Broken(Ending::Size)),
-        Head::Size(n) => {
-            let came = fill(input, &mut buffer[0..n])?;
-            if came == n {
-                Ok(Next::Packet(n))
-            } else {
-                Ok(Next::Broken(Ending::InPacket))
-            }
-        }
+    let head = take(heap, input, 4)?;
+    let Some(size) = head_of(head.as_slice())? else {
+        return Ok(None);
+    };
+    let packet = take(heap, input, size)?;
+    if packet.len() == size {
+        Ok(Some(packet))
+    } else {
+        Err(Ending::InPacket)
     }
 }

@@ -1,7 +1,8 @@
 -- Arguments one behind another: their bytes say them, given their type tags. Assumes nothing.
-use Rattle.std.proofs.Common.{◌≡◌, ℕ, Bool, true, false, eqb, List, [], ◌∷◌, map, length, get_or, drop, ℤ, Some, None, MatchBool, Option, sym, refl, ap, ◌∙◌, subst, arith, MatchOption}
+use Rattle.std.proofs.Common.{◌≡◌, ℕ, Bool, true, false, eqb, List, [], ◌∷◌, map, length, get_or, drop, ℤ, Some, None, MatchBool, Option, is_some, not, sym, refl, ap, ◌∙◌, subst, arith, MatchOption}
 use Rattle.std.proofs.lemmas.List.{nil_from_length}
-use Rattle.std.proofs.lemmas.Bool.{eqb-true, eqb-false}
+use Rattle.std.specs.Bool.{then_some}
+use Rattle.std.proofs.lemmas.Bool.{false≢true, eqb-true, eqb-false}
 use Rattle.packets.specs.Osc.{Value, number, text, blob, tag, NumberOf, TextOf, Field, Fields}
 use Rattle.packets.specs.Read.{Holds}
 use Rattle.packets.proofs.Numbers.{number_same}
@@ -11,6 +12,18 @@ use Rattle.packets.proofs.Texts.{text_same, blob-same}
 pub some_weaker : {X : Type 0} (r : Option X) {P P' : Type 0} {Q Q' : X → Type 0} → (P → P') → ((x : X) → Q x → Q' x) → MatchOption r P Q → MatchOption r P' Q'
 some_weaker (Some x) f g h = g x h
 some_weaker None f g h = f h
+
+-- what is said of an answer that is given where a test holds
+pub some_where : {X Yes No P : Type 0} (Q : X → Type 0) (b : Bool) (x : X) (r : Option X) → r ≡ then_some b x → MatchBool b Yes No → (No → P) → (Yes → Q x) → MatchOption r P Q
+some_where {P = P} Q true x r e h f g = subst (λ o. MatchOption o P Q) (sym e) (g h)
+some_where {P = P} Q false x r e h f g = subst (λ o. MatchOption o P Q) (sym e) (f h)
+
+-- a test whether there is no answer
+pub none_test : {X : Type 0} (P : Type 0) (Q : X → Type 0) (o : Option X) (b : Bool) → is_some o ≡ not b → MatchOption o P Q → MatchBool b P ((x : X) × Q x)
+none_test P Q (Some x) true e h = absurd (false≢true (sym e))
+none_test P Q (Some x) false e h = (x, h)
+none_test P Q None true e h = h
+none_test P Q None false e h = absurd (false≢true e)
 
 pub no_number : (bs : List ℕ) → ((z : ℤ) (rest : List ℕ) → NumberOf z bs rest → ⊥) → (v : Value) (rest : List ℕ) → tag v ≡ 105 → Field v bs rest → ⊥
 no_number bs h (number z) rest e f = h z rest f

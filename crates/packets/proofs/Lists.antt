@@ -2,12 +2,11 @@
 use Rattle.std.proofs.Common.{◌≡◌, ℕ, zero, suc, ◌+◌, ◌^◌, ◌<◌, ◌≤◌, List, [], ◌∷◌, ◌++◌, map, length, get_or, drop, sym, refl, ap, ◌∙◌, subst, arith}
 use Rattle.std.specs.List.{between, flat_map}
 use Rattle.std.proofs.lemmas.List.{length-append}
-use Rattle.packets.specs.declared.entries.Entry.{Entry}
-use Rattle.packets.specs.declared.entries.Entry.TheVariants.{Number, Text, Blob}
+use Rattle.packets.specs.declared.fields.Argument.TheVariants.{Number, Text, Blob}
 use Rattle.packets.specs.declared.entries.Place.{Place}
 use Rattle.packets.specs.Osc.{Value, tag, Plain, Field, Fields}
 use Rattle.packets.specs.Encode.{text_bytes, blob_bytes, field_bytes, encode}
-use Rattle.packets.specs.Write.{entry_value, entry_bytes, letter_of, Inside, content_of, Encodable, Broken, over}
+use Rattle.packets.specs.Write.{Entry, entry_value, entry_bytes, letter_of, Inside, content_of, Encodable, Broken, over}
 use Rattle.packets.proofs.Puts.{two_puts, over-start, length_over}
 use Rattle.packets.proofs.Encoded.{text-encodes, blob-encodes, encoding-length}
 

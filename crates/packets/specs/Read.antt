@@ -1,4 +1,5 @@
 -- What the reader answers, by the bytes behind its references. Assumes nothing.
+use Rattle.std.specs.Borrow.{Bor}
 use Rattle.std.specs.Prelude.{◌≡◌, ℕ, ◌+◌, ◌*◌, ◌%◌, ◌<◌, List, map, length, Result, MatchResult, slice_index, slice_index_or}
 use Rattle.refusals.specs.declared.Refusal.{Refusal}
 use Rattle.refusals.specs.declared.Refusal.TheVariants.{BrokenLayout}
@@ -8,11 +9,15 @@ use Rattle.packets.specs.declared.message.Message.{Message}
 use Rattle.packets.specs.declared.fields.Argument.{Argument}
 use Rattle.packets.specs.declared.fields.Argument.TheVariants.{Number, Text, Blob}
 
--- the argument that the reader's enum stands for
-abbrev pub value : Argument → Value
-value (Number z) = number z
-value (Text s) = text s.now
-value (Blob b) = blob b.now
+-- the argument that the enum stands for, where bytes says what its texts and blobs are
+abbrev pub value_by : {B : Type 0} → (B → List ℕ) → Argument B → Value
+value_by bytes (Number z) = number z
+value_by bytes (Text b) = text (bytes b)
+value_by bytes (Blob b) = blob (bytes b)
+
+-- the argument that the reader answers
+abbrev pub value : Argument (Bor (List ℕ)) → Value
+value a = value_by (λ s. s.now) a
 
 -- the number that four bytes write, the highest first
 abbrev pub unword : List ℕ → ℕ

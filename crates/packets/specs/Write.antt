@@ -3,24 +3,27 @@ use Rattle.std.specs.Prelude.{◌≡◌, ℕ, ◌+◌, ◌<◌, ◌≤◌, ◌�
 use Rattle.std.specs.List.{between, AllByRecursion}
 use Rattle.refusals.specs.declared.Refusal.{Refusal}
 use Rattle.refusals.specs.declared.Refusal.TheVariants.{BrokenLayout, BufferTooShort}
-use Rattle.packets.specs.Osc.{Value, number, text, blob, Field, Content, Encoding, Means}
+use Rattle.packets.specs.Osc.{Value, Field, Content, Encoding, Means}
 use Rattle.packets.specs.Encode.{field_bytes, encode}
-use Rattle.packets.specs.Read.{Says, Answers}
+use Rattle.packets.specs.Read.{value_by, Says, Answers}
 use Rattle.packets.specs.declared.message.Message.{Message}
-use Rattle.packets.specs.declared.entries.Entry.{Entry}
-use Rattle.packets.specs.declared.entries.Entry.TheVariants.{Number, Text, Blob}
+use Rattle.packets.specs.declared.fields.Argument.{Argument}
+use Rattle.packets.specs.declared.fields.Argument.TheVariants.{Number, Text, Blob}
+use Rattle.packets.specs.declared.entries.Place.{Place}
+
+-- an argument to be written: a text or a blob is a place in the lent bytes
+abbrev pub Entry : Type 0
+Entry = Argument Place
 
 -- the argument that an entry names: a number, or the bytes from a place of the lent bytes
 abbrev pub entry_value : List ℕ → Entry → Value
-entry_value lent (Number z) = number z
-entry_value lent (Text p) = text (between p.from p.to lent)
-entry_value lent (Blob p) = blob (between p.from p.to lent)
+entry_value lent e = value_by (λ p. between p.from p.to lent) e
 
--- the type tag of an entry
-abbrev pub letter_of : Entry → ℕ
+-- the type tag of an argument, as of an entry
+abbrev pub letter_of : {B : Type 0} → Argument B → ℕ
 letter_of (Number z) = 105
-letter_of (Text p) = 115
-letter_of (Blob p) = 98
+letter_of (Text b) = 115
+letter_of (Blob b) = 98
 
 -- the bytes of an entry's argument
 abbrev pub entry_bytes : List ℕ → Entry → List ℕ

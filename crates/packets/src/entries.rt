@@ -5,7 +5,7 @@ ghost use Rattle.packets.specs.Osc.{Plain, Field, Fields, Encoding};
 ghost use Rattle.packets.specs.Encode.{fill_len, text_bytes, blob_bytes, encode};
 ghost use Rattle.packets.specs.Write.{entry_bytes, entry_value, letter_of, Inside, Placed, content_of, Encodable, Sendable, Broken};
 
-use super::fields::{behind_slash, fill_len, within_packet, zero_at};
+use super::fields::{Argument, behind_byte, fill_len, within_packet, zero_at};
 
 // A part of the lent bytes: those at `from` and on, up to the one at `to`, which is left out.
 #[derive(Clone, Copy, Debug)]
@@ -15,26 +15,7 @@ pub struct Place {
 }
 
 // An argument to be written; a text or a blob is a place in the lent bytes.
-#[derive(Clone, Copy, Debug)]
-pub enum Entry {
-    // tag 'i'
-    Number(i32),
-    // tag 's'
-    Text(Place),
-    // tag 'b'
-    Blob(Place),
-}
-
-// The type tag of an entry.
-pub(crate) fn letter(e: Entry) -> u8
-    ensures { result ≡ letter_of e }
-{
-    match e {
-        Entry::Number(_) => b'i',
-        Entry::Text(_) => b's',
-        Entry::Blob(_) => b'b',
-    }
-}
+pub type Entry = Argument<Place>;
 
 // How many bytes n bytes take with their fill bytes.
 fn filled_len(n: usize) -> usize
@@ -48,22 +29,14 @@ fn filled_len(n: usize) -> usize
 fn part<'a>(lent: &'a [u8], place: Place) -> Option<&'a [u8]>
     ensures { MatchOption result (((place.from ≤ place.to) × (place.to ≤ length lent.now)) → ⊥) (λ s. (place.from ≤ place.to) × (place.to ≤ length lent.now) × (s.now ≡ between place.from place.to lent.now)) }
 {
-    let Place { from, to } = place;
-    if from <= to && to <= lent.len() {
-        Some(&lent[from..to])
-    } else {
-        None
-    }
+    lent.get(place.from..place.to)
 }
 
 // How many bytes a string takes, or `None` where a zero byte stands in it.
 fn text_size(s: &[u8]) -> Option<usize>
     ensures { MatchOption result (Plain s.now → ⊥) (λ n. Plain s.now × (n ≡ length (text_bytes s.now))) }
 {
-    match zero_at(s) {
-        Some(_) => None,
-        None => Some(filled_len(s.len() + 1)),
-    }
+    zero_at(s).is_none().then_some(filled_len(s.len() + 1))
 }
 
 // The most bytes that a blob has: as many as an int32 can say.
@@ -73,10 +46,7 @@ const MAX_BLOB: usize = 0x7fff_ffff;
 fn blob_size(b: &[u8]) -> Option<usize>
     ensures { MatchOption result (2 ^ 31 ≤ length b.now) (λ n. (length b.now < 2 ^ 31) × (n ≡ length (blob_bytes b.now))) }
 {
-    if b.len() > MAX_BLOB {
-        return None;
-    }
-    Some(4 + filled_len(b.len()))
+    (b.len() <= MAX_BLOB).then_some(4 + filled_len(b.len()))
 }
 
 // How many bytes an entry takes, or `None` where no packet can hold it.
@@ -114,7 +84,7 @@ fn tags_size(entries: &[Entry]) -> Option<usize>
 pub(crate) fn message_size(address: &[u8], entries: &[Entry], lent: &[u8]) -> Option<usize>
     ensures { MatchOption result (Broken address.now lent.now entries.now) (λ n. Placed lent.now entries.now × (n ≡ length (encode (content_of address.now lent.now entries.now))) × Encoding (content_of address.now lent.now entries.now) (encode (content_of address.now lent.now entries.now))) }
 {
-    behind_slash(address)?;
+    behind_byte(b'/', address)?;
     let head = text_size(address)?;
     let tags = tags_size(entries)?;
     let fields = fields_size(entries, lent)?;

@@ -6,18 +6,32 @@ ghost use Rattle.std.specs.List.{between};
 ghost use Rattle.packets.specs.Osc.{Value, tag, Plain, Filled, NumberOf, TextOf, BlobOf, Field};
 ghost use Rattle.packets.specs.Encode.{fill_len};
 ghost use Rattle.packets.specs.Read.{value, unword, Begins, Ends, Holds};
+ghost use Rattle.packets.specs.Write.{letter_of};
 
-// An argument of a message; a text and a blob are parts of the packet itself.
+// An argument of a message. A text and a blob are given by a B: where a packet is read they are
+// parts of the packet itself.
 #[derive(Clone, Copy, Debug)]
-pub enum Argument<'a> {
+pub enum Argument<B> {
     // tag 'i': a signed number of 32 bits
     Number(i32),
     // tag 's': any bytes but zero
-    Text(&'a [u8]),
+    Text(B),
     // tag 'b': any bytes
-    Blob(&'a [u8]),
+    Blob(B),
 }
 
+impl<B> Argument<B> {
+    // The type tag.
+    pub(crate) fn letter(&self) -> u8
+        ensures { result ≡ letter_of self.now }
+    {
+        match self {
+            Argument::Number(_) => b'i',
+            Argument::Text(_) => b's',
+            Argument::Blob(_) => b'b',
+        }
+    }
+}
 // How many fill bytes stand behind n bytes.
 pub(crate) fn fill_len(n: usize) -> usize
     ensures { result ≡ fill_len n }
@@ -26,14 +40,13 @@ pub(crate) fn fill_len(n: usize) -> usize
 }
 
 // The most bytes that a packet has.
-const MAX_PACKET: usize = 4096;
+pub const MAX_PACKET: usize = 4096;
 
 // How many bytes a part takes with more behind it, where a packet can hold as many.
 pub(crate) fn within_packet(part: usize, more: usize) -> Option<usize>
     ensures { MatchOption result (4096 < part + more) (λ n. (n ≡ part + more) × (n ≤ 4096)) }
 {
-    let n = part.checked_add(more)?;
-    if n <= MAX_PACKET { Some(n) } else { None }
+    part.checked_add(more).filter(|n| *n <= MAX_PACKET)
 }
 
 // How many zero bytes a string of n bytes is written with: the one that ends it and the fill.
@@ -44,22 +57,12 @@ pub(crate) fn zeros_len(n: usize) -> usize
     1 + fill_len(n + 1)
 }
 
-// What stands behind the '/' in front.
-pub(crate) fn behind_slash<'a>(bytes: &'a [u8]) -> Option<&'a [u8]>
-    ensures { MatchOption result (Begins 47 bytes.now → ⊥) (λ rest. Begins 47 bytes.now × (rest.now ≡ between 1 (length bytes.now) bytes.now)) }
+// What stands behind the byte in front, where it is the one that is asked for.
+pub(crate) fn behind_byte<'a>(first: u8, bytes: &'a [u8]) -> Option<&'a [u8]>
+    ensures { MatchOption result (Begins first bytes.now → ⊥) (λ rest. Begins first bytes.now × (rest.now ≡ between 1 (length bytes.now) bytes.now)) }
 {
     match bytes {
-        [b'/', rest @ ..] => Some(rest),
-        _ => None,
-    }
-}
-
-// What stands behind the ',' in front.
-pub(crate) fn behind_comma<'a>(bytes: &'a [u8]) -> Option<&'a [u8]>
-    ensures { MatchOption result (Begins 44 bytes.now → ⊥) (λ rest. Begins 44 bytes.now × (rest.now ≡ between 1 (length bytes.now) bytes.now)) }
-{
-    match bytes {
-        [b',', rest @ ..] => Some(rest),
+        [b, rest @ ..] if *b == first => Some(rest),
         _ => None,
     }
 }
@@ -68,12 +71,7 @@ pub(crate) fn behind_comma<'a>(bytes: &'a [u8]) -> Option<&'a [u8]>
 pub(crate) fn zero_at(bytes: &[u8]) -> Option<usize>
     ensures { MatchOption result (Plain bytes.now) (Ends bytes.now) }
 {
-    for (i, b) in bytes.iter().enumerate() {
-        if *b == 0 {
-            return Some(i);
-        }
-    }
-    None
+    bytes.iter().position(|b| *b == 0)
 }
 
 // The first n bytes, and what stands behind them and their fill bytes, which are skipped.
@@ -122,10 +120,7 @@ fn read_number<'a>(bytes: &'a [u8]) -> Option<(i32, &'a [u8])>
 fn blob_len(size: i32) -> Option<usize>
     ensures { MatchOption result ((n : ℕ) → size ≢ pos n) (λ n. size ≡ pos n) }
 {
-    match usize::try_from(size) {
-        Ok(n) => Some(n),
-        Err(_) => None,
-    }
+    usize::try_from(size).ok()
 }
 
 // The blob at the front.
@@ -138,7 +133,10 @@ fn read_blob<'a>(bytes: &'a [u8]) -> Option<(&'a [u8], &'a [u8])>
 }
 
 // The argument that a type tag names, and what stands behind it.
-pub(crate) fn read_argument<'a>(letter: u8, bytes: &'a [u8]) -> Option<(Argument<'a>, &'a [u8])>
+pub(crate) fn read_argument<'a>(
+    letter: u8,
+    bytes: &'a [u8],
+) -> Option<(Argument<&'a [u8]>, &'a [u8])>
     ensures { MatchOption result ((v : Value) (rest : List ℕ) → tag v ≡ letter → Field v bytes.now rest → ⊥) (λ p. (tag (value p.0) ≡ letter) × Field (value p.0) bytes.now p.1.now) }
 {
     match char::from(letter) {
@@ -164,10 +162,10 @@ pub(crate) fn fit(tags: &[u8], fields: &[u8]) -> bool
 {
     let mut rest = fields;
     for letter in tags {
-        match read_argument(*letter, rest) {
-            Some((_, more)) => rest = more,
-            None => return false,
-        }
+        let Some((_, more)) = read_argument(*letter, rest) else {
+            return false;
+        };
+        rest = more;
     }
     rest.is_empty()
 }

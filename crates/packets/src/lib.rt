@@ -9,7 +9,7 @@ mod stream;
 mod write;
 
 pub use entries::{Entry, Place};
-pub use fields::Argument;
+pub use fields::{Argument, MAX_PACKET};
 pub use message::{Message, read_message};
 pub use stream::packet_size;
 pub use write::write_message;

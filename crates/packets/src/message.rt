@@ -4,8 +4,7 @@ ghost use Rattle.packets.specs.Osc.{Value, tag};
 ghost use Rattle.packets.specs.Read.{value, Left, left_count, Reads, Meaningless, Answers};
 
 use super::fields::{
-    Argument, behind_comma, behind_slash, cut_text, fit, read_argument, read_text, within_packet,
-    zero_at,
+    Argument, behind_byte, cut_text, fit, read_argument, read_text, within_packet, zero_at,
 };
 use refusals::Refusal;
 
@@ -46,21 +45,17 @@ impl<'a> Message<'a> {
     }
 
     // The next argument, or `None` behind the last.
-    pub fn next(&mut self) -> Option<Argument<'a>>
+    pub fn next(&mut self) -> Option<Argument<&'a [u8]>>
         ensures value { (vs : List Value) → Left self.old vs → MatchOption result (vs ≡ []) (λ a. (ws : List Value) × ((vs ≡ value a ∷ ws) × Left self.new ws)) }
         ensures same { self.new.address.now ≡ self.old.address.now }
         ensures left { MatchOption result (left_count self.new ≡ left_count self.old) (λ _. left_count self.new + 1 ≡ left_count self.old) }
     {
-        match self.tags {
-            [] => None,
-            [letter, tags @ ..] => match read_argument(*letter, self.fields) {
-                Some((argument, rest)) => {
-                    *self = self.with_left(tags, rest);
-                    Some(argument)
-                }
-                None => None,
-            },
-        }
+        let [letter, tags @ ..] = self.tags else {
+            return None;
+        };
+        let (argument, rest) = read_argument(*letter, self.fields)?;
+        *self = self.with_left(tags, rest);
+        Some(argument)
     }
 }
 
@@ -68,21 +63,17 @@ impl<'a> Message<'a> {
 fn find_message<'a>(packet: &'a [u8]) -> Option<Message<'a>>
     ensures { MatchOption result (Meaningless packet.now) (Reads packet.now) }
 {
-    let rest = behind_slash(packet)?;
+    let rest = behind_byte(b'/', packet)?;
     within_packet(0, packet.len())?;
     let n = zero_at(rest)?;
     let (address, behind) = cut_text(packet, n + 1)?;
     let (list, fields) = read_text(behind)?;
-    let tags = behind_comma(list)?;
-    if fit(tags, fields) {
-        Some(Message {
-            address,
-            tags,
-            fields,
-        })
-    } else {
-        None
-    }
+    let tags = behind_byte(b',', list)?;
+    fit(tags, fields).then_some(Message {
+        address,
+        tags,
+        fields,
+    })
 }
 
 // Reads a packet: its message, or the refusal where it has none.

@@ -1,10 +1,11 @@
-// The parts of a message, each written at a place of the buffer that is long enough.
+// The parts of a message, each written at a place of the buffer that is long enough. The buffer
+// and the place are no struct: each function would owe one clause more, that it keeps the buffer.
 ghost use Rattle.std.specs.Prelude.{◌≡◌, ◌+◌, ◌^◌, ◌<◌, ◌≤◌, ◌∷◌, map, length, replicate};
 ghost use Rattle.std.specs.List.{flat_map};
 ghost use Rattle.packets.specs.Encode.{text_bytes, blob_bytes};
 ghost use Rattle.packets.specs.Write.{entry_bytes, over, letter_of, Inside, Placed};
 
-use super::entries::{Entry, Place, letter};
+use super::entries::{Entry, Place};
 use super::fields::{fill_len, zeros_len};
 
 const ZEROS: [u8; 4] = [0, 0, 0, 0];
@@ -61,7 +62,7 @@ fn put_letters(out: &mut [u8], at: usize, entries: &[Entry]) -> usize
 {
     let mut end = at;
     for e in entries {
-        end = put(out, end, &[letter(*e)]);
+        end = put(out, end, &[e.letter()]);
     }
     end
 }

@@ -2,17 +2,16 @@
 ghost use Rattle.std.specs.Prelude.{Decides};
 ghost use Rattle.packets.specs.Stream.{PacketSize, SizeOf};
 
+use super::fields::MAX_PACKET;
 use refusals::Refusal;
 
-const MIN_SIZE: usize = 4;
-
-const MAX_SIZE: usize = 4096;
+const MIN_PACKET: usize = 4;
 
 // Whether a packet in a stream may have so many bytes.
 fn may_be_size(n: usize) -> bool
     ensures { Decides result (PacketSize n) }
 {
-    MIN_SIZE <= n && n <= MAX_SIZE && n % 4 == 0
+    MIN_PACKET <= n && n <= MAX_PACKET && n % 4 == 0
 }
 
 // How many bytes the packet has that stands behind these four bytes of a stream.

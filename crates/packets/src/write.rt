@@ -24,9 +24,7 @@ pub fn write_message(
     ensures made { MatchResult result (Written address.now lent.now entries.now out.old out.new) (Refused address.now lent.now entries.now out.old out.new) }
     ensures read { IfOk result (λ n. ReadsAs (take n out.new) (content_of address.now lent.now entries.now)) }
 {
-    let Some(size) = message_size(address, entries, lent) else {
-        return Err(Refusal::BrokenLayout);
-    };
+    let size = message_size(address, entries, lent).ok_or(Refusal::BrokenLayout)?;
     if is_short(out.len(), size) {
         return Err(Refusal::BufferTooShort);
     }

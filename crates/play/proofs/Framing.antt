@@ -5,8 +5,7 @@ use Rattle.std.proofs.lemmas.List.{length-take-le, length-drop, take_rest, drop_
 use Rattle.refusals.specs.declared.Refusal.{Refusal}
 use Rattle.packets.specs.Osc.{word, Content, Encoding}
 use Rattle.packets.specs.Encode.{encode}
-use Rattle.packets.specs.Write.{content_of, Placed, Refused}
-use Rattle.packets.specs.declared.entries.Entry.{Entry}
+use Rattle.packets.specs.Write.{Entry, content_of, Placed, Refused}
 use Rattle.play.specs.Replies.{framed}
 
 -- a message that can be written, with room for it, is not refused

@@ -2,7 +2,7 @@ use Rattle.std.proofs.Common.{◌+◌, length, take, pos, ap, ◌∙◌, subst, 
 use Rattle.std.specs.List.{flat_map, AllByRecursion}
 use Rattle.std.proofs.lemmas.List.{take_all, length-append}
 use Rattle.std.proofs.ByRecursion.{All-get_or, All-more}
-use Rattle.packets.specs.declared.entries.Entry.TheVariants.{Number}
+use Rattle.packets.specs.declared.fields.Argument.TheVariants.{Number}
 use Rattle.packets.specs.Write.{entry_bytes, entry_value, Inside, Sendable}
 use Rattle.packets.proofs.Puts.{put-more, joined_le, joined_snoc}
 use Rattle.packets.proofs.Encoded.{fields-length}

@@ -9,9 +9,9 @@ use Rattle.packets.proofs.Encoded.{body-short, encode-encodes}
 use Rattle.packets.proofs.Lists.{encode-length, too_long}
 use Rattle.packets.proofs.entries.message_size.Goals as goal
 
-pub returns-in_err-behind_slash : goal.returns-in_err-behind_slash
-returns-in_err-behind_slash c =
-    rw c.from_residual.ensures (λ placed bs l. c.in_err-behind_slash.ensures (record { first = l.slash; some = some_first c.args.address.now l.slash }))
+pub returns-in_err-behind_byte : goal.returns-in_err-behind_byte
+returns-in_err-behind_byte c =
+    rw c.from_residual.ensures (λ placed bs l. c.in_err-behind_byte.ensures (record { first = l.slash; some = some_first c.args.address.now l.slash }))
 
 pub returns-in_err-tags : goal.returns-in_err-tags
 returns-in_err-tags c =
@@ -35,7 +35,7 @@ returns c =
     let fields = c.in_ok-fields.ensures in
     let tags = c.in_ok-tags.ensures in
     let more = c.in_ok-within_packet.ensures in
-    let slash = c.in_ok-behind_slash.ensures.0.first in
+    let slash = c.in_ok-behind_byte.ensures.0.first in
     let good = All-map Encodable (entry_value c.args.lent.now) c.args.entries.now (All-weaker (Sendable c.args.lent.now) (λ e. Encodable (entry_value c.args.lent.now e)) (λ _ h. h.1) _ fields.0) in
     some_weaker c.within_packet-2.result
     (λ long. too_long _ _ _ (omega arith))

@@ -5,11 +5,11 @@ use Rattle.packets.proofs.Arguments.{Same, same_step, holds-refused}
 use Rattle.packets.proofs.Arguments.{fit_end}
 use Rattle.packets.proofs.fields.fit.Goals as goal
 
-pub returns-in-None : goal.returns-in-None
-returns-in-None c = λ vs h.
+pub returns-in_default : goal.returns-in_default
+returns-in_default c = λ vs h.
     let w = c.loop-letter.invariant.on vs h in
     let here = drop_more c.args.tags.now c.loop-letter.letter-index 0 (omega arith) in
-    holds-refused _ _ _ c.in-None.ensures w.0 (subst (λ x. Holds x c.loop-letter.rest.now w.0) here w.1)
+    holds-refused _ _ _ c.in_default.ensures w.0 (subst (λ x. Holds x c.loop-letter.rest.now w.0) here w.1)
 
 pub loop-letter-preserved : goal.loop-letter-preserved
 loop-letter-preserved c =

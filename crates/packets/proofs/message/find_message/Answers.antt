@@ -4,6 +4,7 @@ use Rattle.packets.specs.Read.{Ends}
 use Rattle.packets.proofs.Texts.{text_unended}
 use Rattle.packets.proofs.Encodings.{plain-behind, ends-behind, encoding-slash, encoding_comma, encoding-behind, encoding-made, encoding-holds, encoding-same, encoding-whole, begins_with}
 use Rattle.packets.proofs.Encoded.{encoding-length}
+use Rattle.packets.proofs.Arguments.{some_where}
 use Rattle.packets.proofs.message.find_message.Goals as goal
 
 pub returns-in_err-rest : goal.returns-in_err-rest
@@ -33,11 +34,13 @@ returns-in_err-tags c =
     rw c.from_residual-in_err-tags.ensures
     (λ m l. c.in_err-tags.ensures (encoding_comma m c.in_ok-address.ensures c.in_ok-list.ensures l))
 
-pub returns-then-fit : goal.returns-then-fit
-returns-then-fit c =
+pub returns : goal.returns
+returns c =
     let slash = c.in_ok-rest.ensures.0.first in
     let e = begins_with c.in_ok-tags.ensures.0 c.in_ok-tags.ensures.1 in
-    let got = c.if-fit.ensures in
+    some_where _ _ _ _ c.then_some.ensures c.fit.ensures
+    (λ none m l. none _ (encoding-holds m _ _ _ _ _ _ c.in_ok-address.ensures c.in_ok-list.ensures e l))
+    (λ got.
     let m : Content = record { address = c.in_ok-address.address.now; arguments = got.0 } in
     let l = encoding-made _ _ _ _ _ _ _ slash c.in_ok-address.ensures c.in_ok-list.ensures e got.1 (omega (arith, c.in_ok-within_packet.ensures)) in
     record {
@@ -46,9 +49,4 @@ returns-then-fit c =
       says = record { address = refl; left = got.1 };
       whole = encoding-whole m _ l;
       len = encoding-length m _ l;
-    }
-
-pub returns-else-fit : goal.returns-else-fit
-returns-else-fit c = λ m l.
-    let e = begins_with c.in_ok-tags.ensures.0 c.in_ok-tags.ensures.1 in
-    c.if-fit.ensures _ (encoding-holds m _ _ _ _ _ _ c.in_ok-address.ensures c.in_ok-list.ensures e l)
+    })

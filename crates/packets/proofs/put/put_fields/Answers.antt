@@ -2,7 +2,7 @@ use Rattle.std.proofs.Common.{◌+◌, length, take, pos, ap, ◌∙◌, arith}
 use Rattle.std.specs.List.{flat_map}
 use Rattle.std.proofs.lemmas.List.{take_all, length-append}
 use Rattle.std.proofs.ByRecursion.{All-get_or}
-use Rattle.packets.specs.declared.entries.Entry.TheVariants.{Number}
+use Rattle.packets.specs.declared.fields.Argument.TheVariants.{Number}
 use Rattle.packets.specs.Write.{entry_bytes, Inside, over}
 use Rattle.packets.proofs.Puts.{over_none, put-more, loop_put, loop_end, joined_le, joined_snoc}
 use Rattle.packets.proofs.put.put_fields.Goals as goal

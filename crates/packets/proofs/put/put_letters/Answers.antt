@@ -1,6 +1,6 @@
 use Rattle.std.proofs.Common.{◌+◌, [], ◌∷◌, map, length, take, pos, ap, ◌∙◌, arith}
 use Rattle.std.proofs.lemmas.List.{map-append, take_all, length-map, length-take}
-use Rattle.packets.specs.declared.entries.Entry.TheVariants.{Number}
+use Rattle.packets.specs.declared.fields.Argument.TheVariants.{Number}
 use Rattle.packets.specs.Write.{letter_of, over}
 use Rattle.packets.proofs.Puts.{over_none, loop_put, loop_end, map_le}
 use Rattle.packets.proofs.put.put_letters.Goals as goal

@@ -1,4 +1,6 @@
-use Rattle.std.proofs.Common.{◌++◌, take, drop, sym, refl, ap, ◌∙◌, subst, inl, inr, arith}
+use Rattle.std.proofs.Common.{◌≡◌, Option, Some, None, Result, Err, ◌++◌, take, drop, sym, refl, ap, ◌∙◌, subst, inl, inr, arith, rules}
+use Rattle.std.specs.Option.{ok_or}
+use Rattle.std.proofs.lemmas.Option.{MatchOption-at_some, MatchOption-at_none}
 use Rattle.std.proofs.lemmas.List.{take_at}
 use Rattle.packets.specs.Osc.{Encoding}
 use Rattle.packets.specs.Encode.{encode}
@@ -7,29 +9,37 @@ use Rattle.packets.proofs.Encodings.{encoding-same, encoding_read}
 use Rattle.packets.proofs.Lists.{encode-length, three_puts}
 use Rattle.packets.proofs.write.write_message.Goals as goal
 
-pub returns-in_default : goal.returns-in_default
-returns-in_default c = record { made = record { cause = inl (refl, c.in_default.ensures); same = refl }; read = tt }
+-- the value that was to stand for none, and that there was none
+none_err : {X E : Type 0} (o : Option X) (e f : E) → ◌≡◌ {A = Result X E} (Err e) (ok_or o f) → (e ≡ f) × (o ≡ None)
+none_err (Some x) e f h = absurd (cc)
+none_err None e f h = (cc, refl)
+
+pub returns-in_err-size : goal.returns-in_err-size
+returns-in_err-size c =
+    let none = none_err _ _ _ c.in_err-size.ensures.value in
+    let e : c.from_residual.result ≡ Err c.in_err-size.field-0.0 = search rules in
+    rw e (record { made = record { cause = inl (none.0, MatchOption-at_none _ _ none.1 c.message_size.ensures); same = refl }; read = tt })
 
 pub returns-then-is_short : goal.returns-then-is_short
 returns-then-is_short c =
-    let got = c.in-Some.ensures in
+    let got = MatchOption-at_some _ _ _ c.in_ok-size.ensures.ok_part c.message_size.ensures in
     record { made = record { cause = inr (refl, record { placed = got.0; encoding = got.2; bound = omega (arith, c.if-is_short.ensures) }); same = refl }; read = tt }
 
 pub put_text-tags-requires : goal.put_text-tags-requires
 put_text-tags-requires c =
-    let got = c.in-Some.ensures in
+    let got = MatchOption-at_some _ _ _ c.in_ok-size.ensures.ok_part c.message_size.ensures in
     let room = c.if-is_short.ensures in
     omega (arith, encode-length c.args.address.now c.args.lent.now c.args.entries.now)
 
 pub put_tags-fields-requires : goal.put_tags-fields-requires
 put_tags-fields-requires c =
-    let got = c.in-Some.ensures in
+    let got = MatchOption-at_some _ _ _ c.in_ok-size.ensures.ok_part c.message_size.ensures in
     let room = c.if-is_short.ensures in
     omega (arith, encode-length c.args.address.now c.args.lent.now c.args.entries.now, c.put_text-tags.ensures.end)
 
 pub put_fields-requires : goal.put_fields-requires
 put_fields-requires c =
-    let got = c.in-Some.ensures in
+    let got = MatchOption-at_some _ _ _ c.in_ok-size.ensures.ok_part c.message_size.ensures in
     let n = encode-length c.args.address.now c.args.lent.now c.args.entries.now in
     let short = got.2.short in
     let room = c.if-is_short.ensures in
@@ -37,11 +47,11 @@ put_fields-requires c =
 
 pub returns : goal.returns
 returns c =
-    let got = c.in-Some.ensures in
+    let got = MatchOption-at_some _ _ _ c.in_ok-size.ensures.ok_part c.message_size.ensures in
     let room = c.if-is_short.ensures in
     let m = content_of c.args.address.now c.args.lent.now c.args.entries.now in
     let all = three_puts c.args.address.now c.args.lent.now c.args.entries.now _ _ _ _ _ _ c.put_text-tags.ensures.after c.put_text-tags.ensures.end c.put_tags-fields.ensures.after c.put_tags-fields.ensures.end c.put_fields.ensures.after (omega arith) in
     let bytes = all ∙ ap (λ n. encode m ++ drop n c.args.out.now) (sym got.1) in
-    let front = ap (take c.in-Some.size) bytes ∙ take_at (encode m) _ c.in-Some.size (sym got.1) in
+    let front = ap (take c.in_ok-size.size) bytes ∙ take_at (encode m) _ c.in_ok-size.size (sym got.1) in
     let lies = subst (Encoding m) (sym front) got.2 in
     record { made = record { placed = got.0; len = got.1; bytes = bytes; means = record { encoding = lies; only = λ k l. encoding-same k m _ l lies } }; read = encoding_read m _ lies }

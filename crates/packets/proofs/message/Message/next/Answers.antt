@@ -1,24 +1,26 @@
-use Rattle.std.proofs.Common.{◌<◌, length, refl, ap, subst, arith, rules}
+use Rattle.std.proofs.Common.{◌<◌, length, ap, subst, arith, rules}
 use Rattle.std.proofs.lemmas.List.{nil_from_length}
 use Rattle.std.proofs.lemmas.Slice.{first_rest}
 use Rattle.packets.specs.Read.{Holds}
 use Rattle.packets.proofs.Arguments.{holds_at, holds-none, holds_less, holds-refused}
 use Rattle.packets.proofs.message.Message.next.Goals as goal
 
-pub returns-in-empty : goal.returns-in-empty
-returns-in-empty c =
+pub returns-in_default-clause-value : goal.returns-in_default-clause-value
+returns-in_default-clause-value c = λ vs h.
     let e = nil_from_length c.args.self.now.tags.now (search rules) in
-    record {
-      value = λ vs h. (holds-none vs (subst (λ x. Holds x c.args.self.now.fields.now vs) e h)).0;
-      same = refl;
-      left = refl;
-    }
+    (holds-none vs (subst (λ x. Holds x c.args.self.now.fields.now vs) e h)).0
 
-pub returns-in-Some : goal.returns-in-Some
-returns-in-Some c =
+pub returns-in_err-argument-clause-value : goal.returns-in_err-argument-clause-value
+returns-in_err-argument-clause-value c = rw c.from_residual.ensures (λ vs h.
     let some : 0 < length c.args.self.now.tags.now = search rules in
     let e = first_rest c.args.self.now.tags.now 0 some in
-    let got = c.in-Some.ensures in
+    absurd (holds-refused _ _ _ c.in_err-argument.ensures vs (subst (λ x. Holds x c.args.self.now.fields.now vs) e h)))
+
+pub returns : goal.returns
+returns c =
+    let some : 0 < length c.args.self.now.tags.now = search rules in
+    let e = first_rest c.args.self.now.tags.now 0 some in
+    let got = c.in_ok-argument.ensures in
     let made = c.with_left.ensures in
     record {
       value = λ vs h.
@@ -26,14 +28,4 @@ returns-in-Some c =
           (l.0, (l.1.0, holds_at made.left.0 made.left.1 l.1.1));
       same = made.same;
       left = omega (arith, ap length made.left.0, ap length e);
-    }
-
-pub returns-in-None : goal.returns-in-None
-returns-in-None c =
-    let some : 0 < length c.args.self.now.tags.now = search rules in
-    let e = first_rest c.args.self.now.tags.now 0 some in
-    record {
-      value = λ vs h. absurd (holds-refused _ _ _ c.in-None.ensures vs (subst (λ x. Holds x c.args.self.now.fields.now vs) e h));
-      same = refl;
-      left = refl;
     }
