@@ -18,7 +18,7 @@ impl Sounds for NoiseRig {
     ghost sounds = { λ s. noise_sound s.seed };
 
     fn sound(&self, place: u32, _code: u16) -> u16 {
-        let mixed = (place as u128 + self.seed as u128) * 2654435761;
+        let mixed = (u128::from(place) + u128::from(self.seed)) * 2654435761;
         (mixed % 4294967296 / 65536) as u16
     }
 }

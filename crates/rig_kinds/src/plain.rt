@@ -3,8 +3,8 @@ ghost use Rattle.std.specs.Prelude.{◌≡◌};
 ghost use Rattle.sets.specs.Sets.{has};
 ghost use Rattle.rig_kinds.specs.Plain.{Sound, heard_as, plain_wire, plain_trio, plain_told};
 
-use rigs::SILENCE;
 use rigs::keys::{TrioKey, WireKey};
+use rigs::{SILENCE, SILENT};
 use sets::contains;
 
 // What a broken speaker is heard as.
@@ -43,7 +43,7 @@ pub(crate) fn trio<S: Sounds>(sounds: &S, key: TrioKey, code: u16, broken: u16) 
     ensures { result ≡ plain_trio (S.Sounds.sounds sounds.now) key code broken }
 {
     if !key.is_good() {
-        return (SILENCE, SILENCE, SILENCE);
+        return SILENT;
     }
     let heard = heard_as(sounds, key.speaker, key.place(key.speaker), code, broken);
     (heard, heard, heard)

@@ -1,5 +1,5 @@
 // The script rig: broken speakers are heard as the entries of a list.
-ghost use Rattle.std.specs.Prelude.{◌≡◌, ◌%◌, ◌<◌};
+ghost use Rattle.std.specs.Prelude.{◌≡◌};
 ghost use Rattle.rig_kinds.specs.Plain.{plain_wire, plain_trio};
 ghost use Rattle.rig_kinds.specs.Scripts.{entry_at, script_sound};
 ghost use Rattle.rig_kinds.specs.PlainLines.{plain-bad, plain-kept, plain-mute, plain-spoken, plain-agreed};
@@ -15,24 +15,14 @@ pub struct ScriptRig {
     pub list: Vec<u16>,
 }
 
-// Which of n entries a place falls on.
-fn entry_index(place: u32, n: usize) -> usize
-    requires { 0 < n }
-    ensures { result ≡ place % n }
-{
-    place as usize % n
-}
-
 impl ScriptRig {
     // The entry for a place, or none where the list is empty.
+    #[tactic(auto, unfolding(crate::specs::Scripts::entry_at))]
     pub(crate) fn entry(&self, place: u32) -> Option<u16>
         ensures { result ≡ entry_at self.now.list.items place }
     {
-        let n = self.list.len();
-        if n == 0 {
-            return None;
-        }
-        Some(self.list[entry_index(place, n)])
+        let index = (place as usize).checked_rem(self.list.len())?;
+        self.list.get(index).copied()
     }
 }
 

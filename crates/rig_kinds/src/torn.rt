@@ -9,7 +9,7 @@ ghost use Rattle.rig_kinds.specs.TornLines.{torn_mute, torn_spoken, torn_agreed}
 use crate::plain;
 use crate::script::ScriptRig;
 use rigs::keys::{TrioKey, WireKey};
-use rigs::{SILENCE, WeakRig, Wire};
+use rigs::{SILENCE, SILENT, WeakRig, Wire};
 use sets::contains;
 
 // A weak rig over a list of entries. Its wire and its telling use whole entries, as the script rig does.
@@ -48,7 +48,7 @@ impl Wire for TornRig {
     ghost kept = { λ w. plain-kept (script_sound w.script.list.items) };
 
     fn wire(&self, key: WireKey, code: u16, broken: u16) -> u16 {
-        plain::wire(&self.script, key, code, broken)
+        self.script.wire(key, code, broken)
     }
 }
 
@@ -69,7 +69,7 @@ impl WeakRig for TornRig {
 
     fn cast(&self, key: TrioKey, code: u16, broken: u16) -> (u16, u16, u16) {
         if !key.is_good() {
-            return (SILENCE, SILENCE, SILENCE);
+            return SILENT;
         }
         if contains(broken, key.speaker) {
             torn_sound(self.script.entry(key.place(key.speaker)), code)
