@@ -48,3 +48,5 @@ sorted_mid x y z ys p s = (sorted_three x y z ys p s).1
 
 pub sorted_high : (x y z : ℕ) (ys : List ℕ) → IsPermutation (x ∷ y ∷ z ∷ []) ys → IsSorted nat_cmp ys → get_or ys 2 0 ≡ high3 x y z
 sorted_high x y z ys p s = (sorted_three x y z ys p s).2
+
+pub ruleset three_sorted = (sorted_low, sorted_mid, sorted_high)

@@ -29,7 +29,7 @@ impl Patch {
     }
 
     // The key of the boxes under three stations, in box order.
-    #[tactic(auto, using(crate::proofs::Three::sorted_low, crate::proofs::Three::sorted_mid, crate::proofs::Three::sorted_high))]
+    #[tactic(auto, using(crate::proofs::Three::three_sorted))]
     pub fn trio_key(&self, key: TrioKey) -> TrioKey
         ensures { result ≡ trio_down (box_of self.now.number) key }
     {

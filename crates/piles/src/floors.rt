@@ -8,6 +8,7 @@ use patch::number::Patch;
 use refusals::Refusal;
 
 // Whether the numbers make a pile, top floor first: each is a patch. Refused where one has a digit twice.
+#[tactic(auto, using(crate::proofs::Standing::pile))]
 pub fn check(numbers: &[u64]) -> Result<(), Refusal>
     ensures made { MatchResult result (λ _. Pile numbers.now) (λ e. (e ≡ DigitTwice) × SomeTwice numbers.now) }
 {

@@ -4,7 +4,6 @@ ghost use Rattle.rig_kinds.specs.Plain.{plain_wire, plain_trio};
 ghost use Rattle.rig_kinds.specs.Scripts.{entry_at, script_sound};
 ghost use Rattle.rig_kinds.specs.PlainLines.{plain-bad, plain-kept, plain-mute, plain-spoken, plain-agreed};
 
-use crate::plain;
 use crate::plain::Sounds;
 use rigs::keys::{TrioKey, WireKey};
 use rigs::{Rig, Wire};
@@ -34,6 +33,7 @@ impl Sounds for ScriptRig {
     }
 }
 
+// The wire and the trio line of script and noise stay two impls: one over `Sounds` would have to stand in `rigs`, which knows no kind of rig.
 impl Wire for ScriptRig {
     ghost carried = { λ s. plain_wire (script_sound s.list.items) };
 
@@ -42,7 +42,7 @@ impl Wire for ScriptRig {
     ghost kept = { λ w. plain-kept (script_sound w.list.items) };
 
     fn wire(&self, key: WireKey, code: u16, broken: u16) -> u16 {
-        plain::wire(self, key, code, broken)
+        self.plain_wire(key, code, broken)
     }
 }
 
@@ -56,6 +56,6 @@ impl Rig for ScriptRig {
     ghost agreed = { λ r. plain-agreed (script_sound r.list.items) };
 
     fn trio(&self, key: TrioKey, code: u16, broken: u16) -> (u16, u16, u16) {
-        plain::trio(self, key, code, broken)
+        self.plain_trio(key, code, broken)
     }
 }

@@ -6,7 +6,7 @@ ghost use Rattle.rig_kinds.specs.Torn.{torn_at, torn_sound, torn_line};
 ghost use Rattle.rig_kinds.specs.PlainLines.{plain-bad, plain-kept, told_bad, told_passed};
 ghost use Rattle.rig_kinds.specs.TornLines.{torn_mute, torn_spoken, torn_agreed};
 
-use crate::plain;
+use crate::plain::Sounds;
 use crate::script::ScriptRig;
 use rigs::keys::{TrioKey, WireKey};
 use rigs::{SILENCE, SILENT, WeakRig, Wire};
@@ -79,6 +79,6 @@ impl WeakRig for TornRig {
     }
 
     fn tell(&self, key: TrioKey, teller: u8, code: u16, broken: u16) -> u16 {
-        plain::tell(&self.script, key, teller, code, broken)
+        self.script.plain_tell(key, teller, code, broken)
     }
 }

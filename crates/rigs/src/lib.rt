@@ -11,6 +11,7 @@ pub mod keys;
 
 use keys::{TrioKey, WireKey};
 
+// Codes on a line are bare numbers by a rule of the project, and a trio cast answers a tuple of three.
 // The code of no word.
 pub const VOID: u16 = 65534;
 
