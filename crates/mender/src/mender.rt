@@ -5,7 +5,7 @@ ghost use Rattle.std.proofs.Common.{rules};
 ghost use Rattle.mender.specs.Mended.{mended-mute, mended-spoken, mended-agreed};
 
 use rigs::keys::{TrioKey, WireKey};
-use rigs::{Rig, SILENCE, VOID, WeakRig, Wire};
+use rigs::{Rig, SILENCE, SILENT, VOID, WeakRig, Wire};
 
 // A rig of any weak rig: each listener tells the other what it heard, and one in silence takes what it was told. Wires pass through.
 #[derive(Drop)]
@@ -60,7 +60,7 @@ impl<W: WeakRig> Rig for Mender<W> {
 
     fn trio(&self, key: TrioKey, code: u16, broken: u16) -> (u16, u16, u16) {
         if !key.is_good() {
-            return (SILENCE, SILENCE, SILENCE);
+            return SILENT;
         }
         let heard = self.weak.cast(key, code, broken);
         let a = self.mend(key, heard, key.a, broken);

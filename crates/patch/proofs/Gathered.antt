@@ -1,5 +1,8 @@
 -- Sets gathered one station after another: the b for which some j below i has f b j.
-use Rattle.std.proofs.Common.{◌≡◌, ℕ, ◌+◌, Bool, true, false, cond, ◌&&◌, ◌||◌, eqb, sym, ap, ◌∙◌, ap₂, ⊎_elim, add-one, arith}
+use Rattle.std.proofs.Common.{◌≡◌, ℕ, zero, suc, ◌+◌, Bool, true, false, cond, ◌&&◌, ◌||◌, eqb, [], ◌∷◌, ◌++◌, fold, filter, sym, refl, ap, ◌∙◌, ap₂, ⊎_elim, add-one, zero-add, arith}
+use Rattle.std.specs.List.{range_with_len}
+use Rattle.std.proofs.lemmas.List.Elements.{filter-append}
+use Rattle.std.proofs.lemmas.List.Sums.{fold-append}
 use Rattle.std.proofs.lemmas.Bool.Decides.{nat_tests}
 use Rattle.std.proofs.lemmas.Bool.{cond-true, cond-false, cases_Bool}
 use Rattle.sets.specs.Sets.{has, mask_of, any}
@@ -29,13 +32,37 @@ gather_same i f set e h =
     h ∙ mask_is 16 (mask_of 16 (λ c. any i (f c))) (λ c. any (i + 1) (f c)) (mask_of-lt 16 (λ c. any i (f c)))
     (λ c l. has-mask_of 16 (λ c. any i (f c)) c l ∙ sym (any_next i (f c) ∙ ap (λ x. x || any i (f c)) (e c)))
 
--- the box b of station i joins where i is in the set s
-pub gather_step : (f : ℕ → ℕ) (s i b under next : ℕ) → b ≡ f i → under ≡ mask_of 16 (λ b. any i (λ j. has s j && eqb (f j) b))
-    → next ≡ cond (has s i) (mask_of 16 (λ j. has under j || eqb b j)) under → next ≡ mask_of 16 (λ b. any (i + 1) (λ j. has s j && eqb (f j) b))
-gather_step f s i b under next e q r =
+-- the box of station i joins where i is in the set s
+gather_step : (f : ℕ → ℕ) (s i under : ℕ) → under ≡ mask_of 16 (λ b. any i (λ j. has s j && eqb (f j) b))
+    → cond (has s i) (mask_of 16 (λ j. has under j || eqb (f i) j)) under ≡ mask_of 16 (λ b. any (i + 1) (λ j. has s j && eqb (f j) b))
+gather_step f s i under q =
     let test : ℕ → ℕ → Bool = λ b j. has s j && eqb (f j) b in
     ⊎_elim
-    (λ (t : has s i ≡ true). r ∙ cond-true (has s i) _ _ t
-    ∙ gather_more i test b under (λ c. ap (λ x. eqb x c) e ∙ ap (λ x. x && eqb (f i) c) (sym t)) q)
-    (λ (t : has s i ≡ false). r ∙ cond-false (has s i) _ _ t ∙ gather_same i test under (λ c. ap (λ x. x && eqb (f i) c) t) q)
+    (λ (t : has s i ≡ true). cond-true (has s i) _ _ t ∙ gather_more i test (f i) under (λ c. ap (λ x. x && eqb (f i) c) (sym t)) q)
+    (λ (t : has s i ≡ false). cond-false (has s i) _ _ t ∙ gather_same i test under (λ c. ap (λ x. x && eqb (f i) c) t) q)
     (cases_Bool (has s i))
+
+-- the numbers from a on, with one more at the end
+range_more : (a n j : ℕ) → a + n ≡ j → range_with_len a (suc n) ≡ range_with_len a n ++ (j ∷ [])
+range_more a zero j e = ap (λ x. x ∷ []) (let z : a ≡ j = omega arith in z)
+range_more a (suc n) j e = ap (λ l. a ∷ l) (range_more (a + 1) n j (omega arith))
+
+-- the boxes of the stations of s, gathered in turn, are the boxes under s
+pub gathered : (f : ℕ → ℕ) (s n : ℕ)
+    → fold (λ under i. mask_of 16 (λ j. has under j || eqb (f i) j)) 0 (filter (has s) (range_with_len 0 n)) ≡ mask_of 16 (λ b. any n (λ j. has s j && eqb (f j) b))
+gathered f s zero = gather_none (λ b j. has s j && eqb (f j) b)
+gathered f s (suc n) =
+    let before = filter (has s) (range_with_len 0 n) in
+    ap (λ l. fold join 0 (filter (has s) l)) (range_more 0 n n (zero-add n))
+    ∙ ap (fold join 0) (filter-append (has s) (range_with_len 0 n) (n ∷ []))
+    ∙ fold-append join 0 before (filter (has s) (n ∷ []))
+    ∙ last (has s n) (fold join 0 before)
+    ∙ gather_step f s n (fold join 0 before) (gathered f s n)
+    ∙ ap (λ m. mask_of 16 (λ b. any m (λ j. has s j && eqb (f j) b))) (add-one n)
+  where
+    join : ℕ → ℕ → ℕ
+    join under i = mask_of 16 (λ j. has under j || eqb (f i) j)
+
+    last : (t : Bool) (under : ℕ) → fold join under (cond t (n ∷ []) []) ≡ cond t (join under n) under
+    last true under = refl
+    last false under = refl

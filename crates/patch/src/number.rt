@@ -1,5 +1,5 @@
 // The number of a patch: hexadecimal digit i, from the lowest, is the box under station i.
-ghost use Rattle.std.specs.Prelude.{◌≡◌, ◌*◌, ◌/◌, ◌%◌, ◌^◌, ◌<◌, true, ◌||◌, if◌then◌else◌, Some, None, MatchResult, ◌==◌};
+ghost use Rattle.std.specs.Prelude.{◌≡◌, true, false, ◌||◌, MatchResult, ◌==◌};
 ghost use Rattle.refusals.specs.declared.Refusal.{Refusal};
 ghost use Rattle.refusals.specs.declared.Refusal.TheVariants.{DigitTwice};
 ghost use Rattle.sets.specs.Sets.{has, mask_of};
@@ -15,41 +15,22 @@ pub struct Patch {
     ghost once: { all_once number ≡ true },
 }
 
-// Hexadecimal digit i, from the lowest, of a number that has sixteen.
-fn hex_digit(number: u64, i: u8) -> u8
-    requires { i < 16 }
-    ensures { result ≡ number / 2 ^ (4 * i) % 16 }
-{
-    ((number >> (4 * i)) % 16) as u8
-}
-
 // Hexadecimal digit i, from the lowest, of a number; 0 where i is 16 or more.
+#[tactic(auto, using(crate::specs::Digits::box_high), unfolding(crate::specs::Boxes::box_of))]
 fn digit(number: u64, i: u8) -> u8
     ensures { result ≡ box_of number i }
 {
-    if i < 16 { hex_digit(number, i) } else { 0 }
+    (number.checked_shr(4 * u32::from(i)).unwrap_or(0) % 16) as u8
 }
 
-// The boxes seen, with b as well; none where b was seen before.
-fn join(seen: u16, b: u8) -> Option<u16>
-    ensures { result ≡ (if has seen b then None else Some (mask_of 16 (λ j. has seen j || b == j))) }
+// The boxes seen, with b as well; refused where b was seen before.
+fn join(seen: u16, b: u8) -> Result<u16, Refusal>
+    ensures { MatchResult result (λ more. (has seen b ≡ false) × (more ≡ mask_of 16 (λ j. has seen j || b == j))) (λ e. (e ≡ DigitTwice) × (has seen b ≡ true)) }
 {
     if contains(seen, b) {
-        None
-    } else {
-        Some(with(seen, b))
+        return Err(Refusal::DigitTwice);
     }
-}
-
-// The boxes gathered, with b as well where station i is in the set.
-fn gather(under: u16, set: u16, i: u8, b: u8) -> u16
-    ensures { result ≡ (if has set i then mask_of 16 (λ j. has under j || b == j) else under) }
-{
-    if contains(set, i) {
-        with(under, b)
-    } else {
-        under
-    }
+    Ok(with(seen, b))
 }
 
 impl Patch {
@@ -58,11 +39,8 @@ impl Patch {
         ensures made { MatchResult result (λ p. (p.number ≡ number) × OneEach (box_of number)) (λ e. (e ≡ DigitTwice) × Twice number) }
     {
         let mut seen = 0;
-        for i in 0..16u8 {
-            let Some(more) = join(seen, digit(number, i)) else {
-                return Err(Refusal::DigitTwice);
-            };
-            seen = more;
+        for i in 0..16 {
+            seen = join(seen, digit(number, i))?;
         }
         Ok(Patch { number })
     }
@@ -74,14 +52,19 @@ impl Patch {
         digit(self.number, i)
     }
 
+    // The boxes gathered, with the box under station i as well.
+    fn gather(&self, under: u16, i: u8) -> u16
+        ensures { result ≡ mask_of 16 (λ j. has under j || box_of self.now.number i == j) }
+    {
+        with(under, self.under(i))
+    }
+
     // The boxes under the stations of a set.
     pub fn down(&self, set: u16) -> u16
         ensures { result ≡ boxes (box_of self.now.number) set }
     {
-        let mut under = 0;
-        for i in 0..16u8 {
-            under = gather(under, set, i, self.under(i));
-        }
-        under
+        (0..16)
+            .filter(|i| contains(set, *i))
+            .fold(0, |under, i| self.gather(under, i))
     }
 }

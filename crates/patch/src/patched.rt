@@ -7,7 +7,7 @@ ghost use Rattle.patch.specs.Digits.{one_each};
 
 use crate::number::Patch;
 use rigs::keys::{TrioKey, WireKey};
-use rigs::{Rig, SILENCE, Wire};
+use rigs::{Rig, SILENCE, SILENT, Wire};
 
 // A rig of any rig: stations, speaker and broken set go down as boxes, in box order, and answers come up in station order.
 #[derive(Drop)]
@@ -16,42 +16,32 @@ pub struct Patched<R> {
     pub rig: R,
 }
 
-// The least, the middle and the largest of three numbers.
-fn in_order(x: u8, y: u8, z: u8) -> (u8, u8, u8)
-    ensures { (result.0 ≡ low3 x y z) × ((result.1 ≡ mid3 x y z) × (result.2 ≡ high3 x y z)) }
-{
-    (
-        x.min(y.min(z)),
-        x.min(y).max(x.max(y).min(z)),
-        x.max(y.max(z)),
-    )
-}
-
 impl Patch {
     // The key of the boxes under a wire's stations.
     pub fn wire_key(&self, key: WireKey) -> WireKey
         ensures { result ≡ wire_down (box_of self.now.number) key }
     {
         WireKey {
-            take: key.take,
-            round: key.round,
             from: self.under(key.from),
             to: self.under(key.to),
+            ..key
         }
     }
 
     // The key of the boxes under three stations, in box order.
+    #[tactic(auto, using(crate::proofs::Three::three_sorted))]
     pub fn trio_key(&self, key: TrioKey) -> TrioKey
         ensures { result ≡ trio_down (box_of self.now.number) key }
     {
-        let (a, b, c) = in_order(self.under(key.a), self.under(key.b), self.under(key.c));
+        let mut boxes = [self.under(key.a), self.under(key.b), self.under(key.c)];
+        boxes.sort_unstable();
+        let [a, b, c] = boxes;
         TrioKey {
-            take: key.take,
-            round: key.round,
             a,
             b,
             c,
             speaker: self.under(key.speaker),
+            ..key
         }
     }
 }
@@ -83,7 +73,7 @@ impl<R: Rig> Rig for Patched<R> {
 
     fn trio(&self, key: TrioKey, code: u16, broken: u16) -> (u16, u16, u16) {
         if !key.is_good() {
-            return (SILENCE, SILENCE, SILENCE);
+            return SILENT;
         }
         let below = self.patch.trio_key(key);
         let heard = self.rig.trio(below, code, self.patch.down(broken));

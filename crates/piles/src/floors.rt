@@ -7,20 +7,13 @@ ghost use Rattle.piles.specs.Piles.{Pile, SomeTwice};
 use patch::number::Patch;
 use refusals::Refusal;
 
-// Whether a number is a patch.
-fn floor(number: u64) -> Result<(), Refusal>
-    ensures { MatchResult result (λ _. OneEach (box_of number)) (λ e. (e ≡ DigitTwice) × Twice number) }
-{
-    let _patch = Patch::new(number)?;
-    Ok(())
-}
-
 // Whether the numbers make a pile, top floor first: each is a patch. Refused where one has a digit twice.
+#[tactic(auto, using(crate::proofs::Standing::pile))]
 pub fn check(numbers: &[u64]) -> Result<(), Refusal>
     ensures made { MatchResult result (λ _. Pile numbers.now) (λ e. (e ≡ DigitTwice) × SomeTwice numbers.now) }
 {
     for number in numbers {
-        floor(*number)?;
+        Patch::new(*number)?;
     }
     Ok(())
 }

@@ -16,7 +16,17 @@ use sets::contains;
 fn pair_alike(broken: u16, s: u8, x: u16, t: u8, y: u16) -> bool
     ensures { result ≡ pair_alike broken s x t y }
 {
-    contains(broken, s) | contains(broken, t) | (x == y)
+    contains(broken, s) || contains(broken, t) || x == y
+}
+
+// The same of each two of the three.
+fn all_alike(key: TrioKey, broken: u16, heard: (u16, u16, u16)) -> bool
+    ensures { result ≡ alike key broken heard }
+{
+    let (x, y, z) = heard;
+    pair_alike(broken, key.a, x, key.b, y)
+        && pair_alike(broken, key.b, y, key.c, z)
+        && pair_alike(broken, key.a, x, key.c, z)
 }
 
 // Whether the good ones of the three hear the same; on a good key they do, unless silence is spoken.
@@ -24,10 +34,7 @@ pub fn good_hear_alike<R: Rig>(rig: &R, key: TrioKey, code: u16, broken: u16) ->
     ensures value { result ≡ alike key broken (R.Rig.heard rig.now key code broken) }
     ensures lawful { good_trio key ≡ true → (code ≢ silence) → result ≡ true }
 {
-    let (x, y, z) = rig.trio(key, code, broken);
-    pair_alike(broken, key.a, x, key.b, y)
-        & pair_alike(broken, key.b, y, key.c, z)
-        & pair_alike(broken, key.a, x, key.c, z)
+    all_alike(key, broken, rig.trio(key, code, broken))
 }
 
 // The same on a pile of three patches over a mender on any weak rig: what is heard is what the pile of the three numbers answers.

@@ -3,7 +3,6 @@ ghost use Rattle.rig_kinds.specs.Plain.{plain_wire, plain_trio};
 ghost use Rattle.rig_kinds.specs.Noises.{noise_sound};
 ghost use Rattle.rig_kinds.specs.PlainLines.{plain-bad, plain-kept, plain-mute, plain-spoken, plain-agreed};
 
-use crate::plain;
 use crate::plain::Sounds;
 use rigs::keys::{TrioKey, WireKey};
 use rigs::{Rig, Wire};
@@ -18,11 +17,12 @@ impl Sounds for NoiseRig {
     ghost sounds = { λ s. noise_sound s.seed };
 
     fn sound(&self, place: u32, _code: u16) -> u16 {
-        let mixed = (place as u128 + self.seed as u128) * 2654435761;
-        (mixed % 4294967296 / 65536) as u16
+        let mixed = place.wrapping_add(self.seed).wrapping_mul(2654435761);
+        (mixed / 65536) as u16
     }
 }
 
+// The wire and the trio line of script and noise stay two impls: one over `Sounds` would have to stand in `rigs`, which knows no kind of rig.
 impl Wire for NoiseRig {
     ghost carried = { λ s. plain_wire (noise_sound s.seed) };
 
@@ -31,7 +31,7 @@ impl Wire for NoiseRig {
     ghost kept = { λ w. plain-kept (noise_sound w.seed) };
 
     fn wire(&self, key: WireKey, code: u16, broken: u16) -> u16 {
-        plain::wire(self, key, code, broken)
+        self.plain_wire(key, code, broken)
     }
 }
 
@@ -45,6 +45,6 @@ impl Rig for NoiseRig {
     ghost agreed = { λ r. plain-agreed (noise_sound r.seed) };
 
     fn trio(&self, key: TrioKey, code: u16, broken: u16) -> (u16, u16, u16) {
-        plain::trio(self, key, code, broken)
+        self.plain_trio(key, code, broken)
     }
 }

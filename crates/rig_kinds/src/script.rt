@@ -1,10 +1,9 @@
 // The script rig: broken speakers are heard as the entries of a list.
-ghost use Rattle.std.specs.Prelude.{◌≡◌, ◌%◌, ◌<◌};
+ghost use Rattle.std.specs.Prelude.{◌≡◌};
 ghost use Rattle.rig_kinds.specs.Plain.{plain_wire, plain_trio};
 ghost use Rattle.rig_kinds.specs.Scripts.{entry_at, script_sound};
 ghost use Rattle.rig_kinds.specs.PlainLines.{plain-bad, plain-kept, plain-mute, plain-spoken, plain-agreed};
 
-use crate::plain;
 use crate::plain::Sounds;
 use rigs::keys::{TrioKey, WireKey};
 use rigs::{Rig, Wire};
@@ -15,24 +14,14 @@ pub struct ScriptRig {
     pub list: Vec<u16>,
 }
 
-// Which of n entries a place falls on.
-fn entry_index(place: u32, n: usize) -> usize
-    requires { 0 < n }
-    ensures { result ≡ place % n }
-{
-    place as usize % n
-}
-
 impl ScriptRig {
     // The entry for a place, or none where the list is empty.
+    #[tactic(auto, unfolding(crate::specs::Scripts::entry_at))]
     pub(crate) fn entry(&self, place: u32) -> Option<u16>
         ensures { result ≡ entry_at self.now.list.items place }
     {
-        let n = self.list.len();
-        if n == 0 {
-            return None;
-        }
-        Some(self.list[entry_index(place, n)])
+        let index = (place as usize).checked_rem(self.list.len())?;
+        self.list.get(index).copied()
     }
 }
 
@@ -44,6 +33,7 @@ impl Sounds for ScriptRig {
     }
 }
 
+// The wire and the trio line of script and noise stay two impls: one over `Sounds` would have to stand in `rigs`, which knows no kind of rig.
 impl Wire for ScriptRig {
     ghost carried = { λ s. plain_wire (script_sound s.list.items) };
 
@@ -52,7 +42,7 @@ impl Wire for ScriptRig {
     ghost kept = { λ w. plain-kept (script_sound w.list.items) };
 
     fn wire(&self, key: WireKey, code: u16, broken: u16) -> u16 {
-        plain::wire(self, key, code, broken)
+        self.plain_wire(key, code, broken)
     }
 }
 
@@ -66,6 +56,6 @@ impl Rig for ScriptRig {
     ghost agreed = { λ r. plain-agreed (script_sound r.list.items) };
 
     fn trio(&self, key: TrioKey, code: u16, broken: u16) -> (u16, u16, u16) {
-        plain::trio(self, key, code, broken)
+        self.plain_trio(key, code, broken)
     }
 }

@@ -6,10 +6,10 @@ ghost use Rattle.rig_kinds.specs.Torn.{torn_at, torn_sound, torn_line};
 ghost use Rattle.rig_kinds.specs.PlainLines.{plain-bad, plain-kept, told_bad, told_passed};
 ghost use Rattle.rig_kinds.specs.TornLines.{torn_mute, torn_spoken, torn_agreed};
 
-use crate::plain;
+use crate::plain::Sounds;
 use crate::script::ScriptRig;
 use rigs::keys::{TrioKey, WireKey};
-use rigs::{SILENCE, WeakRig, Wire};
+use rigs::{SILENCE, SILENT, WeakRig, Wire};
 use sets::contains;
 
 // A weak rig over a list of entries. Its wire and its telling use whole entries, as the script rig does.
@@ -48,7 +48,7 @@ impl Wire for TornRig {
     ghost kept = { λ w. plain-kept (script_sound w.script.list.items) };
 
     fn wire(&self, key: WireKey, code: u16, broken: u16) -> u16 {
-        plain::wire(&self.script, key, code, broken)
+        self.script.wire(key, code, broken)
     }
 }
 
@@ -69,7 +69,7 @@ impl WeakRig for TornRig {
 
     fn cast(&self, key: TrioKey, code: u16, broken: u16) -> (u16, u16, u16) {
         if !key.is_good() {
-            return (SILENCE, SILENCE, SILENCE);
+            return SILENT;
         }
         if contains(broken, key.speaker) {
             torn_sound(self.script.entry(key.place(key.speaker)), code)
@@ -79,6 +79,6 @@ impl WeakRig for TornRig {
     }
 
     fn tell(&self, key: TrioKey, teller: u8, code: u16, broken: u16) -> u16 {
-        plain::tell(&self.script, key, teller, code, broken)
+        self.script.plain_tell(key, teller, code, broken)
     }
 }

@@ -27,7 +27,7 @@ pub struct TrioKey {
 fn is_round(round: u8) -> bool
     ensures { result ≡ good_round round }
 {
-    (1 <= round) & (round <= 64)
+    (1..=64).contains(&round)
 }
 
 impl WireKey {
@@ -35,14 +35,17 @@ impl WireKey {
     pub fn is_good(&self) -> bool
         ensures { result ≡ good_wire self.now }
     {
-        is_round(self.round) & (self.from < 16) & (self.to < 16) & (self.from != self.to)
+        is_round(self.round) && self.from < 16 && self.to < 16 && self.from != self.to
     }
 
     // The place of the key, from which scripts and noise are read.
     pub fn place(&self) -> u32
         ensures { result ≡ wire_place self.now }
     {
-        self.take as u32 + 16384 * self.round as u32 + 16 * self.from as u32 + self.to as u32
+        u32::from(self.take)
+            + 16384 * u32::from(self.round)
+            + 16 * u32::from(self.from)
+            + u32::from(self.to)
     }
 }
 
@@ -51,7 +54,7 @@ impl TrioKey {
     pub fn holds(&self, s: u8) -> bool
         ensures { result ≡ in_trio self.now s }
     {
-        (s == self.a) | (s == self.b) | (s == self.c)
+        [self.a, self.b, self.c].contains(&s)
     }
 
     // Whether the key is good: a round of 1 to 64, stations a < b < c below 16, and the speaker among them.
@@ -59,26 +62,26 @@ impl TrioKey {
         ensures { result ≡ good_trio self.now }
     {
         is_round(self.round)
-            & (self.a < self.b)
-            & (self.b < self.c)
-            & (self.c < 16)
-            & self.holds(self.speaker)
+            && self.a < self.b
+            && self.b < self.c
+            && self.c < 16
+            && self.holds(self.speaker)
     }
 
     // Whether the key of a telling by t is good: the trio key is, and t is one of its two listeners.
     pub fn tells(&self, t: u8) -> bool
         ensures { result ≡ good_tell self.now t }
     {
-        self.is_good() & self.holds(t) & (t != self.speaker)
+        self.is_good() && self.holds(t) && t != self.speaker
     }
 
     // The one of the three that is neither the speaker nor t.
     pub fn other(&self, t: u8) -> u8
         ensures { result ≡ other_than self.now t }
     {
-        if (self.a != self.speaker) & (self.a != t) {
+        if self.a != self.speaker && self.a != t {
             self.a
-        } else if (self.b != self.speaker) & (self.b != t) {
+        } else if self.b != self.speaker && self.b != t {
             self.b
         } else {
             self.c
@@ -102,12 +105,12 @@ impl TrioKey {
     pub fn place(&self, s: u8) -> u32
         ensures { result ≡ trio_place self.now s }
     {
-        self.take as u32
-            + 16384 * self.round as u32
-            + 1024 * self.a as u32
-            + 64 * self.b as u32
-            + 4 * self.c as u32
-            + self.position(s) as u32
+        u32::from(self.take)
+            + 16384 * u32::from(self.round)
+            + 1024 * u32::from(self.a)
+            + 64 * u32::from(self.b)
+            + 4 * u32::from(self.c)
+            + u32::from(self.position(s))
     }
 
     // What station s has of an answer, which has what each of the three hears, lowest station first.

@@ -11,13 +11,18 @@ pub mod keys;
 
 use keys::{TrioKey, WireKey};
 
+// Codes on a line are bare numbers by a rule of the project, and a trio cast answers a tuple of three.
 // The code of no word.
 pub const VOID: u16 = 65534;
 
 // The code of nothing heard.
 pub const SILENCE: u16 = 65535;
 
+// What the three hear where none hears anything.
+pub const SILENT: (u16, u16, u16) = (SILENCE, SILENCE, SILENCE);
+
 // What carries a code from one station to another.
+// A question's key, code and broken set stay three parameters: each law speaks of them one by one, and a struct of them would only be taken apart again.
 pub trait Wire {
     // the code that arrives, for each key, code sent and broken set
     ghost carried: { Self → Wires };

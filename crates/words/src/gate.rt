@@ -9,8 +9,8 @@ use crate::WordKind;
 // HOLD or GO.
 #[derive(Clone, Copy, PartialEq, Eq, Debug)]
 pub enum Gate {
-    Hold,
-    Go,
+    Hold = 0,
+    Go = 1,
 }
 
 impl WordKind for Gate {
@@ -29,10 +29,7 @@ impl WordKind for Gate {
     ghost only = { gate_only };
 
     fn encode(self) -> u16 {
-        match self {
-            Gate::Hold => 0,
-            Gate::Go => 1,
-        }
+        self as u16
     }
 
     fn decode(number: u16) -> Option<Gate> {

@@ -8,6 +8,7 @@ pub mod gate;
 pub mod scene;
 
 // A kind of words. Its meaning is its table: the code of each word, and the word of each code.
+// Both conversions stand here and not in `From` and `TryFrom`, since the laws below tie one to the other.
 pub trait WordKind: Copy {
     // how many words there are
     ghost size: { ℕ };

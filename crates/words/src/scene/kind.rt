@@ -17,41 +17,12 @@ const BANKS: u16 = 16;
 // How many slots a bank has.
 const SLOTS: u16 = 64;
 
-// Whether there is such a slot in such a bank.
-fn is_scene(bank: u16, slot: u16) -> bool
-    ensures { result ≡ (nat_lt bank 16 && nat_lt slot 64) }
-{
-    (bank < BANKS) & (slot < SLOTS)
-}
-
-// Whether a number is a scene's code.
-fn is_code(number: u16) -> bool
-    ensures { result ≡ nat_lt number 1024 }
-{
-    number < BANKS * SLOTS
-}
-
-// The bank of a code.
-fn bank_of(code: u16) -> u8
-    requires { code < 1024 }
-    ensures { result ≡ code / 64 }
-{
-    (code / SLOTS) as u8
-}
-
-// The slot of a code.
-fn slot_of(code: u16) -> u8
-    ensures { result ≡ code % 64 }
-{
-    (code % SLOTS) as u8
-}
-
 impl Scene {
     // The scene of a bank and a slot, or a refusal where there is none.
     pub fn new(bank: u16, slot: u16) -> Result<Scene, Refusal>
         ensures { MatchResult result (λ s. (s.bank ≡ bank) × (s.slot ≡ slot)) (λ e. (e ≡ is_no_word) × (SceneMade bank slot → ⊥)) }
     {
-        if !is_scene(bank, slot) {
+        if bank >= BANKS || slot >= SLOTS {
             return Err(Refusal::NoWord);
         }
         Ok(Scene {
@@ -94,13 +65,8 @@ impl WordKind for Scene {
         SLOTS * u16::from(self.bank) + u16::from(self.slot)
     }
 
+    #[tactic(auto, using(crate::proofs::Decoding::scene_of_parts))]
     fn decode(number: u16) -> Option<Scene> {
-        if !is_code(number) {
-            return None;
-        }
-        Some(Scene {
-            bank: bank_of(number),
-            slot: slot_of(number),
-        })
+        Scene::new(number / SLOTS, number % SLOTS).ok()
     }
 }

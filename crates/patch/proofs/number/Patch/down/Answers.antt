@@ -1,19 +1,17 @@
-use Rattle.std.proofs.Common.{◌≡◌, ◌&&◌, eqb, ap, ◌∙◌, arith}
-use Rattle.sets.specs.Sets.{has, mask_of, any}
+use Rattle.std.proofs.Common.{rules, ◌||◌, eqb, refl, ◌∙◌}
+use Rattle.std.proofs.lemmas.Iterator.{YieldsList-from_range}
+use Rattle.std.proofs.lemmas.Iterator.Consumers.{YieldsList-from_filter, fold_from_yields_List}
+use Rattle.sets.specs.Sets.{has, mask_of}
 use Rattle.patch.specs.Boxes.{box_of, boxes}
-use Rattle.patch.proofs.Gathered.{gather_none, gather_step}
+use Rattle.patch.proofs.Gathered.{gathered}
 use Rattle.patch.proofs.number.Patch.down.Goals as goal
-
-pub loop-i-init : goal.loop-i-init
-loop-i-init c = gather_none (λ b j. has c.args.set j && eqb (box_of c.args.self.now.number j) b)
-
-pub loop-i-preserved : goal.loop-i-preserved
-loop-i-preserved c =
-    gather_step (box_of c.args.self.now.number) c.args.set c.loop-i.i c.under.result c.loop-i.under c.gather-under.result
-    c.under.ensures c.loop-i.invariant c.gather-under.ensures
 
 pub returns : goal.returns
 unfolding boxes
 returns c =
-    c.loop-i.invariant
-    ∙ ap (λ n. mask_of 16 (λ b. any n (λ j. has c.args.set j && eqb (box_of c.args.self.now.number j) b))) (let z : c.loop-i.i ≡ 16 = omega (arith, c.loop-i-test.false) in z)
+    let f = box_of c.args.self.now.number in
+    let set = c.args.set in
+    fold_from_yields_List _ (λ under i. mask_of 16 (λ j. has under j || eqb (f i) j)) 0 c.fold.result c.fold.ensures.ran
+    (YieldsList-from_filter _ (has set) (YieldsList-from_range 0 16 16 c.filter.ensures.source refl) c.filter.ensures.closure (λ x b q k. search rules))
+    (λ a x r q k. search rules)
+    ∙ gathered f set 16

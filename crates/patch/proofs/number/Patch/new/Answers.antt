@@ -1,33 +1,26 @@
-use Rattle.std.proofs.Common.{◌||◌, eqb, sym, refl, ap, ◌∙◌, arith}
-use Rattle.sets.specs.Sets.{has, mask_of}
-use Rattle.patch.specs.Boxes.{box_of}
+use Rattle.std.proofs.Common.{eqb, sym, refl, ap, ◌∙◌, arith, rules}
+use Rattle.patch.specs.Boxes.{box_of, Twice}
 use Rattle.patch.proofs.Gathered.{gather_none, gather_more}
-use Rattle.patch.specs.Digits.{once-none, once_more, once-all, one_each, before-twice, seen_has, joined, not-joined}
+use Rattle.patch.specs.Digits.{once-none, once_more, once-all, one_each, before-twice, seen_has}
 use Rattle.patch.proofs.number.Patch.new.Goals as goal
 
 pub loop-i-init : goal.loop-i-init
 loop-i-init c = (once-none c.args.number, gather_none (λ b j. eqb (box_of c.args.number j) b))
 
-pub returns-in_default : goal.returns-in_default
-returns-in_default c =
+pub returns-in_err-seen : goal.returns-in_err-seen
+returns-in_err-seen c =
     let p = c.args.number in
-    let i = c.loop-i.i in
-    let b = c.digit.result in
-    let seen = c.loop-i.seen in
-    let next = mask_of 16 (λ j. has seen j || eqb b j) in
-    let twice = not-joined (has seen b) next (sym c.join.ensures ∙ c.in_default.is) in
-    record { made = (refl, before-twice p i (omega arith) (sym (seen_has p i b seen c.digit.ensures c.loop-i.invariant.1) ∙ twice)) }
+    let t : Twice p = before-twice p c.loop-i.i (omega arith) (sym (seen_has p c.loop-i.i c.digit.result c.loop-i.seen c.digit.ensures c.loop-i.invariant.1) ∙ c.in_err-seen.ensures.1) in
+    record { made = search rules }
 
 pub loop-i-preserved : goal.loop-i-preserved
 loop-i-preserved c =
     let p = c.args.number in
     let i = c.loop-i.i in
     let b = c.digit.result in
-    let seen = c.loop-i.seen in
-    let next = mask_of 16 (λ j. has seen j || eqb b j) in
-    let r = joined (has seen b) next c.in-Some.more (sym c.join.ensures ∙ c.in-Some.is) in (
-      once_more p i c.loop-i.invariant.0 (sym (seen_has p i b seen c.digit.ensures c.loop-i.invariant.1) ∙ r.0),
-      r.1 ∙ gather_more i (λ b j. eqb (box_of p j) b) b seen (λ c'. ap (λ x. eqb x c') c.digit.ensures) c.loop-i.invariant.1,
+    let seen = c.loop-i.seen in (
+      once_more p i c.loop-i.invariant.0 (sym (seen_has p i b seen c.digit.ensures c.loop-i.invariant.1) ∙ c.in_ok-seen.ensures.0),
+      c.in_ok-seen.ensures.1 ∙ gather_more i (λ b j. eqb (box_of p j) b) b seen (λ c'. ap (λ x. eqb x c') c.digit.ensures) c.loop-i.invariant.1,
     )
 
 pub invariant_of-result : goal.invariant_of-result
