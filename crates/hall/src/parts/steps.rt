@@ -97,7 +97,6 @@ impl<R: Rig, Q: Rule, K: WordKind> Hall<R, Q, K> {
                 kings: kings.count,
                 rounds: 0,
             },
-            broken: self.state.broken,
             held: first_codes(
                 self.rule.n(),
                 self.rest.encode(),
@@ -105,6 +104,7 @@ impl<R: Rig, Q: Rule, K: WordKind> Hall<R, Q, K> {
                 word.encode(),
             ),
             lamps: 0,
+            ..self.state
         };
         Ok(Answer::Done)
     }
@@ -178,9 +178,9 @@ impl<R: Rig, Q: Rule, K: WordKind> Hall<R, Q, K> {
         let Outcome { held, lamps } = run(&self.rig, &self.rule, self.rest, kind, &start, sheet)?;
         self.state = State {
             stage: stage_after(&start, kings),
-            broken: start.broken,
             held,
             lamps,
+            ..self.state
         };
         Ok(Answer::Done)
     }
