@@ -1,5 +1,5 @@
 -- What a round's code gives is the round of the definitions.
-use Rattle.std.proofs.Common.{◌≡◌, ℕ, suc, ◌+◌, ◌*◌, Bool, true, false, cond, ltb, leb, List, length, Ok, Err, ap, ◌∙◌, add-one, arith}
+use Rattle.std.proofs.Common.{◌≡◌, ℕ, suc, ◌+◌, ◌*◌, Bool, true, false, cond, ltb, leb, List, length, Ok, Err, ap, add-one, arith}
 use Rattle.refusals.specs.declared.Refusal.TheVariants.{SheetTooShort}
 use Rattle.rigs.specs.declared.Wire as wires
 use Rattle.rigs.specs.declared.Rig as rigs
@@ -56,10 +56,4 @@ module _ {R Q K : Type 0} (v : wires.Ghosts R) (g : rigs.Ghosts R) (q : rules.Gh
       → ◌≡◌ {A = Place R Q K} (held o s, Ok Done, after) (advancing v g q k x take caller kings rounds sheet)
   advance_is rounds sheet after kind o s isKind gave left isStage =
       let one = add-one rounds in
-      let gave' : Ok o ≡ fitting sheet (outcome_at (kind_of (suc rounds)) (suc rounds)) = gave ∙ ap (λ (j : RoundKind). fitting sheet (outcome_at j (rounds + 1))) isKind ∙ ap (λ (r : ℕ). fitting sheet (outcome_at (kind_of r) r)) one in
-      let left' : after ≡ cond (leb 4096 (length sheet)) (sheet_at (kind_of (suc rounds)) (suc rounds) sheet) sheet =
-      left ∙ ap (λ (j : RoundKind). cond (leb 4096 (length sheet)) (sheet_at j (rounds + 1) sheet) sheet) isKind ∙ ap (λ (r : ℕ). cond (leb 4096 (length sheet)) (sheet_at (kind_of r) r sheet) sheet) one in
-      let stage' : s ≡ stage_at (suc rounds) = isStage ∙ ap stage_at one in
-      ap (λ (z : Stage). (held o z, Ok Done, after)) stage'
-      ∙ ap (λ (z : List ℕ). (held o (stage_at (suc rounds)), Ok Done, z)) left'
-      ∙ by_length rounds sheet (leb 4096 (length sheet)) o gave'
+      rw isStage (rw left (rw isKind (rw one (by_length rounds sheet (leb 4096 (length sheet)) o (rw one at (rw isKind at gave))))))

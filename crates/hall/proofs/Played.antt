@@ -9,13 +9,19 @@ use Rattle.rules.specs.declared.Rule as rules
 use Rattle.words.specs.declared.WordKind as kinds
 use Rattle.agreement.specs.declared.stage.Answer.{Answer}
 use Rattle.agreement.specs.Made.{meaning_of}
-use Rattle.agreement.specs.Calls.{State, after, reply, sheet_after}
-use Rattle.agreement.specs.Calls.{Call as Asked}
+use Rattle.agreement.specs.Calls.{after, reply, sheet_after}
 use Rattle.hall.specs.declared.call.Call.{Call}
 use Rattle.hall.specs.declared.replay.Step.{Step}
+use Rattle.hall.specs.declared.state.State.{State as Standing}
 use Rattle.hall.specs.Halls.{Model, meant, asked}
 use Rattle.hall.specs.Histories.{Had, Does, Answers, Continues}
 use Rattle.hall.specs.Replays.{standing, played}
+use Rattle.hall.proofs.Continued.{stands-after}
+
+-- the calls up to the next one, the newest first
+next-taken : {A : Type 0} (xs : List A) (i : ℕ) (x : A) → i < length xs → x ≡ get_or xs i x → reverse (take (i + 1) xs) ≡ x ∷ reverse (take i xs)
+next-taken xs i x lt e =
+    ap reverse (take_more xs i x lt) ∙ reverse-append (take i xs) (get_or xs i x ∷ []) ∙ ap (λ z. z ∷ reverse (take i xs)) (sym e)
 
 module _ {R Q K : Type 0} (v : wires.Ghosts R) (g : rigs.Ghosts R) (q : rules.Ghosts Q) (k : kinds.Ghosts K) (rig : R) (rule : Q) (rest : K) (given : List ℕ) where
   -- the calls, the newest first, were played on a hall of these parts
@@ -25,44 +31,43 @@ module _ {R Q K : Type 0} (v : wires.Ghosts R) (g : rigs.Ghosts R) (q : rules.Gh
     pub sheet : left ≡ (played (meaning_of v g q k rig rule rest) given calls).sheet
 
   -- none was played on a new hall
-  pub none-played : (x : Model R Q K) → Had v g q k rig rule rest x [] → PlayedTo [] x [] given
+  pub none-played : (x : Model R Q K) (came : List (Step K)) → Had v g q k rig rule rest x [] → came ≡ [] → PlayedTo [] x came given
   unfolding played
-  none-played x had = record { had = had; steps = refl; sheet = refl }
+  none-played x came had none = record { had = had; steps = none; sheet = refl }
 
-  same-sheet : (x : Model R Q K) (c : Asked K) (sheet : List ℕ) (h : List (Asked K)) → Had v g q k rig rule rest x h
-      → sheet_after (meant v g q k x) x.state c sheet ≡ sheet_after (meaning_of v g q k rig rule rest) (after (meaning_of v g q k rig rule rest) h) c sheet
-  same-sheet x c sheet h had = at x.rig x.rule x.rest x.state had.of_rig had.of_rule had.of_rest had.stands
-    where
-      at : (a : R) (b : Q) (d : K) (s : State) → a ≡ rig → b ≡ rule → d ≡ rest → s ≡ after (meaning_of v g q k rig rule rest) h
-          → sheet_after (meaning_of v g q k a b d) s c sheet ≡ sheet_after (meaning_of v g q k rig rule rest) (after (meaning_of v g q k rig rule rest) h) c sheet
-      at a b d s e f i j = cc
-
-  same-steps : (came came' : List (Step K)) (r r' : Result (Answer K) Refusal) (s s' : State) → came ≡ came' → r ≡ r' → s ≡ s'
-      → ◌≡◌ {A = List (Step K)} (came ++ (record { answer = r; state = standing s } ∷ [])) (came' ++ (record { answer = r'; state = standing s' } ∷ []))
-  same-steps came came' r r' s s' e f h =
-      ap (λ (z : List (Step K)). z ++ (record { answer = r; state = standing s } ∷ [])) e
-      ∙ ap (λ (z : Result (Answer K) Refusal). came' ++ (record { answer = z; state = standing s } ∷ [])) f
-      ∙ ap (λ (z : State). came' ++ (record { answer = r'; state = standing z } ∷ [])) h
+  same-step : (r r' : Result (Answer K) Refusal) (s s' : Standing) → r ≡ r' → s ≡ s' → ◌≡◌ {A = Step K} (record { answer = r; state = s }) (record { answer = r'; state = s' })
+  same-step r r' s s' e f = cc
 
   -- one call more
-  pub one_more : (calls : List (Call K)) (x y : Model R Q K) (came : List (Step K)) (sheet left : List ℕ) (c : Call K) (r : Result (Answer K) Refusal)
+  one_more : (calls : List (Call K)) (x y : Model R Q K) (came more : List (Step K)) (sheet left : List ℕ) (c : Call K) (r : Result (Answer K) Refusal) (s : Standing)
       → PlayedTo calls x came sheet
       → Does v g q k x (asked c sheet) sheet y r left → Answers v g q k x (asked c sheet) r → Continues v g q k x (asked c sheet) y
-      → PlayedTo (c ∷ calls) y (came ++ (record { answer = r; state = standing y.state } ∷ [])) left
+      → more ≡ came ++ (record { answer = r; state = s } ∷ []) → s ≡ standing y.state
+      → PlayedTo (c ∷ calls) y more left
   unfolding played
-  one_more calls x y came sheet left c r p does answers continues =
+  one_more calls x y came more sheet left c r s p does answers continues pushed stands =
       let m = meaning_of v g q k rig rule rest in
       let h = (played m given calls).history in
-      let had = (continues rig rule rest h p.had).0 in
-      let same : sheet ≡ (played m given calls).sheet = p.sheet in
-      let had' = subst (λ (z : List ℕ). Had v g q k rig rule rest y (asked c z ∷ h)) same had in
+      let c' = asked c (played m given calls).sheet in
+      let same = stands-after v g q k rig rule rest x h p.had in
+      let had : Had v g q k rig rule rest y (c' ∷ h) = subst (λ (z : List ℕ). Had v g q k rig rule rest y (asked c z ∷ h)) p.sheet (continues rig rule rest h p.had).0 in
+      let answer : r ≡ reply m (after m h) c' = answers rig rule rest h p.had ∙ ap (λ (z : List ℕ). reply m (after m h) (asked c z)) p.sheet in
       record {
-        had = had';
-        steps = same-steps came _ r _ y.state _ p.steps (answers rig rule rest h p.had ∙ ap (λ (z : List ℕ). reply m (after m h) (asked c z)) same) had'.stands;
-        sheet = does.sheet ∙ same-sheet x (asked c sheet) sheet h p.had ∙ ap (λ (z : List ℕ). sheet_after m (after m h) (asked c z) z) same;
+        had = had;
+        steps =
+            pushed ∙ ap (λ (z : Step K). came ++ (z ∷ [])) (same-step r _ s _ answer (stands ∙ ap standing had.stands))
+            ∙ ap (λ (z : List (Step K)). z ++ (record { answer = reply m (after m h) c'; state = standing (after m (c' ∷ h)) } ∷ [])) p.steps;
+        sheet =
+            does.sheet ∙ ap (λ (z : Model R Q K). sheet_after (meant v g q k z) z.state (asked c sheet) sheet) same
+            ∙ ap (λ (z : List ℕ). sheet_after m (after m h) (asked c z) z) p.sheet;
       }
 
--- the calls up to the next one, the newest first
-pub next-taken : {A : Type 0} (xs : List A) (i : ℕ) (x : A) → i < length xs → x ≡ get_or xs i x → reverse (take (i + 1) xs) ≡ x ∷ reverse (take i xs)
-next-taken xs i x lt e =
-    ap reverse (take_more xs i x lt) ∙ reverse-append (take i xs) (get_or xs i x ∷ []) ∙ ap (λ z. z ∷ reverse (take i xs)) (sym e)
+  -- the same for the next of a list of calls
+  pub next-played : (calls : List (Call K)) (i : ℕ) (x y : Model R Q K) (came more : List (Step K)) (sheet left : List ℕ) (c : Call K) (r : Result (Answer K) Refusal) (s : Standing)
+      → i < length calls → c ≡ get_or calls i c
+      → PlayedTo (reverse (take i calls)) x came sheet
+      → Does v g q k x (asked c sheet) sheet y r left → Answers v g q k x (asked c sheet) r → Continues v g q k x (asked c sheet) y
+      → more ≡ came ++ (record { answer = r; state = s } ∷ []) → s ≡ standing y.state
+      → PlayedTo (reverse (take (i + 1) calls)) y more left
+  next-played calls i x y came more sheet left c r s lt e p does answers continues pushed stands =
+      rw (next-taken calls i c lt e) (one_more (reverse (take i calls)) x y came more sheet left c r s p does answers continues pushed stands)

@@ -25,7 +25,7 @@ pub record Model (R Q K : Type 0) : Type 0 where
 -- the fields of a hall
 abbrev pub model : {R Q K : Type 0} → Hall R Q K → Model R Q K
 model h =
-    record { rig = h.rig; rule = h.rule; rest = h.rest; state = record { stage = h.stage; broken = h.broken; held = h.held; lit = h.lamps } }
+    record { rig = h.rig; rule = h.rule; rest = h.rest; state = record { stage = h.state.stage; broken = h.state.broken; held = h.state.held; lit = h.state.lamps } }
 
 -- the meanings of its parts
 abbrev pub meant : {R Q K : Type 0} → wires.Ghosts R → rigs.Ghosts R → rules.Ghosts Q → kinds.Ghosts K → Model R Q K → Meaning K

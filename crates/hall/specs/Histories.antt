@@ -9,7 +9,7 @@ use Rattle.agreement.specs.declared.stage.Answer.{Answer}
 use Rattle.agreement.specs.Made.{meaning_of}
 use Rattle.agreement.specs.Calls.{Call, after, next, reply, sheet_after}
 use Rattle.agreement.specs.Agreement.{Agrees}
-use Rattle.hall.specs.Halls.{Model, meant, put}
+use Rattle.hall.specs.Halls.{Model, meant, put, done_of}
 
 module _ {R Q K : Type 0} (v : wires.Ghosts R) (g : rigs.Ghosts R) (q : rules.Ghosts Q) (k : kinds.Ghosts K) where
   -- the hall x was made of this rig, rule and rest word, and has had the calls h, the newest first
@@ -36,6 +36,12 @@ module _ {R Q K : Type 0} (v : wires.Ghosts R) (g : rigs.Ghosts R) (q : rules.Gh
   Continues x c y =
       (rig : R) (rule : Q) (rest : K) (h : List (Call K)) → Had rig rule rest x h
       → Had rig rule rest y (c ∷ h) × Agrees (meaning_of v g q k rig rule rest) (c ∷ h)
+
+  -- a call c that has nothing to tell, on the hall x: its answer, the hall that it leaves, and that the histories of x go on with it
+  pub record Did (x : Model R Q K) (c : Call K) (r : Result (Unit {0}) Refusal) (y : Model R Q K) : Type 0 where
+    pub answer : r ≡ done_of (reply (meant v g q k x) x.state c)
+    pub hall : y ≡ put x (next (meant v g q k x) x.state c)
+    pub history : Continues x c y
 
   -- whatever calls h led to x, the stations agree after them
   abbrev pub Agreed : Model R Q K → Type 0

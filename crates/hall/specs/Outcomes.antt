@@ -14,7 +14,7 @@ use Rattle.agreement.specs.declared.stage.Stage.TheVariants.{Idle, Running, Deci
 use Rattle.agreement.specs.declared.stage.Answer.{Answer}
 use Rattle.agreement.specs.declared.stage.Answer.TheVariants.{Done, Word, Lit}
 use Rattle.agreement.specs.Sheets.{sixteen}
-use Rattle.agreement.specs.Calls.{advanced, sheet_left}
+use Rattle.agreement.specs.Calls.{State, advanced, sheet_left}
 use Rattle.hall.specs.declared.call.Call.{Call}
 use Rattle.hall.specs.declared.call.Call.TheVariants.{Open, Round, Strike, Mark, Clear, Read, Lamp}
 use Rattle.hall.specs.Halls.{Model, meant, put}
@@ -27,10 +27,9 @@ Outcome R Q K = Model R Q K × Result (Answer K) Refusal
 abbrev pub Place : Type 0 → Type 0 → Type 0 → Type 0
 Place R Q K = Model R Q K × Result (Answer K) Refusal × List ℕ
 
--- a hall of these parts as it is made
-abbrev pub made_of : {R Q K : Type 0} → R → Q → K → Model R Q K
-made_of rig rule rest =
-    record { rig = rig; rule = rule; rest = rest; state = record { stage = Idle; broken = 0; held = replicate 16 void; lit = 0 } }
+-- no cue is on: every station holds void, every lamp is out
+abbrev pub idle : ℕ → State
+idle broken = record { stage = Idle; broken = broken; held = replicate 16 void; lit = 0 }
 
 -- the answer of a read: the word that was found
 abbrev pub found : {K : Type 0} → Option K → Result (Answer K) Refusal
@@ -59,7 +58,7 @@ module _ {R Q K : Type 0} (v : wires.Ghosts R) (g : rigs.Ghosts R) (q : rules.Gh
       )
 
   abbrev pub striking : Model R Q K → Outcome R Q K
-  striking x = (put x (record { stage = Idle; broken = x.state.broken; held = replicate 16 void; lit = 0 }), Ok Done)
+  striking x = (put x (idle x.state.broken), Ok Done)
 
   -- the hall with another broken set
   abbrev pub breaking : Model R Q K → ℕ → Model R Q K

@@ -2,19 +2,17 @@
 ghost use Rattle.std.specs.Prelude.{◌≡◌, Bool, true};
 ghost use Rattle.hall.specs.Bounds.{bounded};
 
-use agreement::stage::Stage;
+use crate::state::State;
 
 pub mod calls;
+mod steps;
 
-// A hall: its rig, its rule and its rest word; whether it is idle, running or decided; the set of broken stations, the code that each station holds, and the set of the stations whose lamps are lit.
+// A hall: its rig, its rule and its rest word, and where it stands.
 #[derive(Drop)]
 pub struct Hall<R, Q, K> {
     rig: R,
     rule: Q,
     rest: K,
-    stage: Stage,
-    broken: u16,
-    held: [u16; 16],
-    lamps: u16,
-    ghost within: { bounded stage ≡ true },
+    state: State,
+    ghost within: { bounded state.stage ≡ true },
 }

@@ -60,7 +60,7 @@ pub fn replay<R: Rig + Drop, Q: Rule + Drop, K: WordKind>(
     parts_agree(&rig, &rule, &rest);
     let mut hall = Hall::new(rig, rule, rest);
     for call in calls {
-        let _ = steps.push(play(&mut hall, *call, sheet));
+        steps.push_reserved(play(&mut hall, *call, sheet));
     }
     Ok(Run { hall, steps })
 }

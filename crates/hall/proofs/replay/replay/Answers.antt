@@ -1,45 +1,30 @@
-use Rattle.std.proofs.Common.{◌≡◌, ◌+◌, ◌<◌, true, List, [], ◌∷◌, ◌++◌, reverse, length, take, is_ok, vec_items, sym, ap, ◌∙◌, subst, arith}
+use Rattle.std.proofs.Common.{arith}
 use Rattle.std.proofs.lemmas.List.{take_all}
-use Rattle.std.proofs.lemmas.Bool.{cond-true}
-use Rattle.hall.specs.declared.call.Call.{Call}
-use Rattle.hall.specs.declared.replay.Step.{Step}
-use Rattle.hall.specs.declared.state.State.{State as Standing}
-use Rattle.hall.specs.Halls.{model}
-use Rattle.hall.proofs.Played.{PlayedTo, none-played, one_more, next-taken}
+use Rattle.hall.proofs.Played.{none-played, next-played}
 use Rattle.hall.proofs.replay.replay.Goals as goal
 
 pub loop-call-init : goal.loop-call-init
 loop-call-init g c =
-    let made = c.in_ok-steps.ensures in (
-      λ rig rule rest had.
-          subst (λ (z : List (Step g.row.K.Denot)). PlayedTo g.R.Wire g.R.Rig g.Q.Rule g.K.WordKind rig rule rest c.args.sheet.now [] (model c.new-hall.result) z c.args.sheet.now)
-          (sym made.items) (none-played g.R.Wire g.R.Rig g.Q.Rule g.K.WordKind rig rule rest c.args.sheet.now (model c.new-hall.result) had),
-      made.len,
-      made.capacity,
-    )
+    let made = c.in_ok-steps.ensures in
+    record {
+      played = none-played g.R.Wire g.R.Rig g.Q.Rule g.K.WordKind c.args.rig c.args.rule c.args.rest c.args.sheet.now _ _ c.new-hall.ensures.made made.items;
+      each = made.len;
+      room = made.capacity;
+    }
 
 pub loop-call-preserved : goal.loop-call-preserved
 loop-call-preserved g c =
-    let i = c.loop-call.call-index in
-    let lt : i < length c.args.calls.now = omega arith in
-    let room : is_ok c.push.result ≡ true = c.push.ensures.succeeds (omega arith) in
-    let step : Standing → Step g.row.K.Denot = λ s. record { answer = c.play.result.answer; state = s } in
-    let items = c.push.ensures.items ∙ cond-true _ _ _ room ∙ ap (λ (s : Standing). vec_items c.loop-call.steps ++ (step s ∷ [])) c.play.ensures.state in
-    let ran = c.play.ensures in (
-      λ rig rule rest had.
-          subst (λ (z : List (Call g.row.K.Denot)). PlayedTo g.R.Wire g.R.Rig g.Q.Rule g.K.WordKind rig rule rest c.args.sheet.now z (model c.play.new.hall) (vec_items c.push.new.self) c.play.new.sheet)
-          (sym (next-taken c.args.calls.now i c.call-item.result lt c.call-item.is))
-          (subst (λ (z : List (Step g.row.K.Denot)). PlayedTo g.R.Wire g.R.Rig g.Q.Rule g.K.WordKind rig rule rest c.args.sheet.now (c.call-item.result ∷ reverse (take i c.args.calls.now)) (model c.play.new.hall) z c.play.new.sheet)
-          (sym items)
-          (one_more g.R.Wire g.R.Rig g.Q.Rule g.K.WordKind rig rule rest c.args.sheet.now _ _ _ _ _ _ _ _ (c.loop-call.invariant.0 rig rule rest had) ran.does ran.answered ran.history)),
-      c.push.ensures.len ∙ cond-true _ _ _ room ∙ ap (λ n. n + 1) c.loop-call.invariant.1,
-      omega (arith, c.push.ensures.capacity),
-    )
+    let ran = c.play.ensures in
+    let pushed = c.push_reserved.ensures in
+    record {
+      played =
+          next-played g.R.Wire g.R.Rig g.Q.Rule g.K.WordKind c.args.rig c.args.rule c.args.rest c.args.sheet.now c.args.calls.now c.loop-call.call-index _ _ _ _ _ _ c.call-item.result _ _
+          (omega arith) c.call-item.is c.loop-call.invariant.played ran.does ran.answered ran.history pushed.items ran.state;
+      each = omega (arith, pushed.len);
+      room = omega (arith, pushed.capacity);
+    }
 
 pub returns : goal.returns
 returns g c =
-    let whole : take c.loop-call.call-index c.args.calls.now ≡ c.args.calls.now = take_all _ _ (omega arith) in
-    let came =
-    subst (λ (z : List (Call g.row.K.Denot)). PlayedTo g.R.Wire g.R.Rig g.Q.Rule g.K.WordKind c.args.rig c.args.rule c.args.rest c.args.sheet.now (reverse z) (model c.loop-call.hall) (vec_items c.loop-call.steps) c.loop-call.sheet)
-    whole (c.loop-call.invariant.0 c.args.rig c.args.rule c.args.rest c.new-hall.ensures.made) in
+    let came = rw (take_all c.loop-call.call-index c.args.calls.now (omega arith)) at c.loop-call.invariant.played in
     record { had = came.had; steps = came.steps; sheet = came.sheet; agree = λ later before e. c.parts_agree.ensures before }

@@ -1,12 +1,12 @@
-use Rattle.std.proofs.Common.{[], ap}
+use Rattle.std.proofs.Common.{[], ap, refl}
 use Rattle.agreement.specs.Calls.{after, blank}
+use Rattle.hall.specs.declared.state.State.{State as Standing}
 use Rattle.hall.proofs.parts.Hall.new.Goals as goal
 
 pub returns : goal.returns
 unfolding after blank
 returns g c =
-    let e = c.idle.ensures in
     record {
-      made = record { of_rig = ap (λ x. x.rig) e; of_rule = ap (λ x. x.rule) e; of_rest = ap (λ x. x.rest) e; stands = ap (λ x. x.state) e };
+      made = record { of_rig = refl; of_rule = refl; of_rest = refl; stands = ap (λ (s : Standing). record { stage = s.stage; broken = s.broken; held = s.held; lit = s.lamps }) c.idle.ensures };
       agreed = c.parts_agree.ensures [];
     }
