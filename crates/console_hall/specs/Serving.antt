@@ -1,5 +1,5 @@
 -- What the console does with what a packet asks for.
-use Rattle.std.specs.Prelude.{◌≡◌, ℕ, ◌<◌, ◌≤◌, ◌⊎◌, List, [], length, Some, None, Ok, Err, vec_items, Option, Result}
+use Rattle.std.specs.Prelude.{◌≡◌, ℕ, ◌<◌, ◌≤◌, ◌⊎◌, List, [], length, Some, None, Ok, Err, vec_items, option_map, Option, Result}
 use Rattle.refusals.specs.declared.Refusal.{Refusal}
 use Rattle.refusals.specs.declared.Refusal.TheVariants.{NotMade, AlreadyMade, UnlawfulRule}
 use Rattle.rules.specs.declared.count.CountRule.{CountRule}
@@ -10,12 +10,10 @@ use Rattle.agreement.specs.Calls.{next, reply, sheet_after}
 use Rattle.hall.specs.declared.call.Call.{Call}
 use Rattle.hall.specs.Halls.{Model, model, meant, put, asked}
 use Rattle.hall.specs.Histories.{Had, Continues}
-use Rattle.play.specs.declared.reply.Reply.{Reply}
-use Rattle.play.specs.declared.reply.Reply.TheVariants.{Done, No}
-use Rattle.play.specs.Replies.{content_in, Framed}
+use Rattle.play.specs.declared.reply.Told.TheVariants.{Done}
+use Rattle.play.specs.Replies.{Reply, content_in, Framed}
 use Rattle.play.specs.Plays.{reply_to}
 use Rattle.console_hall.specs.declared.console.Console.{Console}
-use Rattle.console_hall.specs.declared.console.Console.TheVariants.{Waiting, Made as Has}
 use Rattle.console_hall.specs.declared.console.serving.Stop.{Stop}
 use Rattle.console_hall.specs.declared.console.serving.Stop.TheVariants.{NoRoom, NoMemory}
 use Rattle.console_hall.specs.Making.{Asked, entries_in}
@@ -28,8 +26,7 @@ Hall = Model ScriptRig CountRule Gate
 
 -- the hall that the console has, if any
 abbrev pub hall_in : Console → Option Hall
-hall_in Waiting = None
-hall_in (Has h) = Some (model h)
+hall_in c = option_map model c.hall
 
 -- a new hall, as it was asked for: its script rig has the entries, its count rule n and t, and no call was made on it
 pub record New (a : Asked) (x : Hall) : Type 0 where
@@ -42,10 +39,10 @@ pub record New (a : Asked) (x : Hall) : Type 0 where
 
 -- a making: refused where there is a hall, then where the numbers make no rule; else there is a new hall
 abbrev pub Made : Asked → Option Hall → Option Hall → Reply → Type 0
-Made a (Some x) y r = (y ≡ Some x) × (r ≡ No AlreadyMade)
+Made a (Some x) y r = (y ≡ Some x) × (r ≡ Err AlreadyMade)
 Made a None y r =
-    ((CountMade a.n a.t → ⊥) × (y ≡ None) × (r ≡ No UnlawfulRule))
-    ⊎ (CountMade a.n a.t × (r ≡ Done) × ((x : Hall) × ((y ≡ Some x) × New a x)))
+    ((CountMade a.n a.t → ⊥) × (y ≡ None) × (r ≡ Err UnlawfulRule))
+    ⊎ (CountMade a.n a.t × (r ≡ Ok Done) × ((x : Hall) × ((y ≡ Some x) × New a x)))
 
 -- a call: refused where there is no hall; else made on it
 pub record OnHall (c : Call Gate) (x : Hall) (given : List ℕ) (y : Hall) (left : List ℕ) (r : Reply) : Type 0 where
@@ -55,14 +52,14 @@ pub record OnHall (c : Call Gate) (x : Hall) (given : List ℕ) (y : Hall) (left
   pub history : Continues wire trio count gates x (asked c given) y
 
 abbrev pub Performed : Call Gate → Option Hall → List ℕ → Option Hall → List ℕ → Reply → Type 0
-Performed c None given y left r = (y ≡ None) × (left ≡ given) × (r ≡ No NotMade)
+Performed c None given y left r = (y ≡ None) × (left ≡ given) × (r ≡ Err NotMade)
 Performed c (Some x) given y left r = (z : Hall) × ((y ≡ Some z) × OnHall c x given z left r)
 
 -- what a packet asks for is done, or it is refused and nothing is changed
 abbrev pub DoneAs : Result Wanted Refusal → Option Hall → List ℕ → Option Hall → List ℕ → Reply → Type 0
 DoneAs (Ok (Makes a)) x given y left r = Made a x y r × (left ≡ given)
 DoneAs (Ok (Calls c)) x given y left r = Performed c x given y left r
-DoneAs (Err e) x given y left r = (y ≡ x) × (left ≡ given) × (r ≡ No e)
+DoneAs (Err e) x given y left r = (y ≡ x) × (left ≡ given) × (r ≡ Err e)
 
 -- the packet, given to a console with the hall x, if any, and a sheet, leaves it with y, and this on the sheet, and gets this reply
 pub record Answered (packet : List ℕ) (x : Option Hall) (given : List ℕ) (y : Option Hall) (left : List ℕ) (r : Reply) : Type 0 where

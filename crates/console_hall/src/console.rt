@@ -6,9 +6,8 @@ use words::gate::Gate;
 
 pub mod serving;
 
-// Where the console stands: it waits for a hall to be made, or has one.
+// A console: its hall, once one was made.
 #[derive(Drop)]
-pub enum Console {
-    Waiting,
-    Made(Hall<ScriptRig, CountRule, Gate>),
+pub struct Console {
+    pub hall: Option<Hall<ScriptRig, CountRule, Gate>>,
 }

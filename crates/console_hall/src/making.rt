@@ -47,11 +47,7 @@ fn four_arguments<'a>(message: Message<'a>) -> Option<Arguments<'a>>
     let t = next_number(&mut left)?;
     let rest = next_number(&mut left)?;
     let script = next_blob(&mut left)?;
-    if no_argument(left) {
-        Some(Arguments { n, t, rest, script })
-    } else {
-        None
-    }
+    no_argument(left).then_some(Arguments { n, t, rest, script })
 }
 
 // Whether a byte of the script is left over.
@@ -68,23 +64,17 @@ fn making_from<'a>(arguments: Arguments<'a>) -> Result<Making<'a>, Refusal>
     if is_odd(arguments.script.len()) {
         return Err(Refusal::OddScript);
     }
-    match word::<Gate>(arguments.rest) {
-        Some(rest) => Ok(Making {
-            n: station(arguments.n),
-            t: station(arguments.t),
-            rest,
-            script: arguments.script,
-        }),
-        None => Err(Refusal::NoWord),
-    }
+    Ok(Making {
+        n: station(arguments.n),
+        t: station(arguments.t),
+        rest: word(arguments.rest).ok_or(Refusal::NoWord)?,
+        script: arguments.script,
+    })
 }
 
 // The making that a message asks for, or the refusal.
 pub fn read_making<'a>(message: Message<'a>) -> Result<Making<'a>, Refusal>
     ensures { (vs : List Value) → Left message.entry vs → MatchResult result (λ m. making_of vs ≡ Ok (wanted m)) (λ e. making_of vs ≡ Err e) }
 {
-    match four_arguments(message) {
-        Some(arguments) => making_from(arguments),
-        None => Err(Refusal::WrongTags),
-    }
+    making_from(four_arguments(message).ok_or(Refusal::WrongTags)?)
 }

@@ -10,7 +10,7 @@ ghost use Rattle.console_hall.specs.Orders.{make_address, as_making, as_call, or
 use crate::making::{Making, read_making};
 use hall::call::Call;
 use packets::{Message, read_message};
-use play::asks::{call_of, named};
+use play::asks::call_of;
 use play::name::Name;
 use refusals::Refusal;
 use words::gate::Gate;
@@ -33,34 +33,23 @@ fn is_make(address: &[u8]) -> bool
 fn make_order<'a>(message: Message<'a>) -> Result<Order<'a>, Refusal>
     ensures { (vs : List Value) → Left message.entry vs → order_in result ≡ as_making (making_of vs) }
 {
-    match read_making(message) {
-        Ok(making) => Ok(Order::Make(making)),
-        Err(refusal) => Err(refusal),
-    }
+    Ok(Order::Make(read_making(message)?))
 }
 
 // The call of this name that a message asks for.
 fn call_order<'a>(name: Name, message: Message<'a>) -> Result<Order<'a>, Refusal>
     ensures { (vs : List Value) → Left message.entry vs → order_in result ≡ as_call (call_of gate_word name vs) }
 {
-    match call_of::<Gate>(name, message) {
-        Ok(call) => Ok(Order::Call(call)),
-        Err(refusal) => Err(refusal),
-    }
+    Ok(Order::Call(call_of(name, message)?))
 }
 
 // What a packet asks for, or its refusal.
 pub fn read_order<'a>(packet: &'a [u8]) -> Result<Order<'a>, Refusal>
     ensures { Orders packet.now (order_in result) }
 {
-    let Ok(message) = read_message(packet) else {
-        return Err(Refusal::BrokenLayout);
-    };
+    let message = read_message(packet)?;
     if is_make(message.address()) {
         return make_order(message);
     }
-    match named(message.address()) {
-        Ok(name) => call_order(name, message),
-        Err(refusal) => Err(refusal),
-    }
+    call_order(Name::try_from(message.address())?, message)
 }

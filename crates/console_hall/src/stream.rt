@@ -12,9 +12,6 @@ pub fn next_packet(bytes: &[u8]) -> Result<Option<usize>, Refusal>
     let [a, b, c, d, rest @ ..] = bytes else {
         return Ok(None);
     };
-    match packet_size([*a, *b, *c, *d]) {
-        Ok(size) if size <= rest.len() => Ok(Some(size)),
-        Ok(_) => Ok(None),
-        Err(refusal) => Err(refusal),
-    }
+    let size = packet_size([*a, *b, *c, *d])?;
+    Ok((size <= rest.len()).then_some(size))
 }

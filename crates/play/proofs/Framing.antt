@@ -1,5 +1,5 @@
 -- A message behind its size.
-use Rattle.std.proofs.Common.{◌≡◌, ℕ, ◌+◌, ◌-◌, ◌≤◌, List, [], ◌++◌, length, take, drop, ap, ◌∙◌, inl, inr, arith}
+use Rattle.std.proofs.Common.{◌≡◌, ℕ, ◌+◌, ◌-◌, ◌≤◌, List, [], ◌++◌, length, take, drop, Ok, Err, Result, MatchResult, IsOk, refl, ap, ◌∙◌, inl, inr, arith}
 use borrow.Rule.Slice.PartMut.{put_mid, post_of}
 use Rattle.std.proofs.lemmas.List.{length-take-le, length-drop, take_rest, drop_all, drop_at, drop-drop, append-nil}
 use Rattle.refusals.specs.declared.Refusal.{Refusal}
@@ -7,6 +7,11 @@ use Rattle.packets.specs.Osc.{word, Content, Encoding}
 use Rattle.packets.specs.Encode.{encode}
 use Rattle.packets.specs.Write.{Entry, content_of, Placed, Refused}
 use Rattle.play.specs.Replies.{framed}
+
+-- what is not refused is done
+pub done_unless : {A : Type 0} (r : Result A Refusal) (P : A → Type 0) (Q : Refusal → Type 0) → MatchResult r P Q → ((e : Refusal) → Q e → ⊥) → IsOk r
+done_unless (Ok n) P Q h none = refl
+done_unless (Err e) P Q h none = absurd (none e h)
 
 -- a message that can be written, with room for it, is not refused
 pub never_refused : (address lent : List ℕ) (es : List Entry) (before after : List ℕ) (e : Refusal) → Refused address lent es before after e → Placed lent es

@@ -1,3 +1,4 @@
 pub mod Asked
 pub mod Framing
+pub mod Telling
 pub mod Written

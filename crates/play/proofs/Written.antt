@@ -44,10 +44,15 @@ pub small-no : (x : ℕ) → x < 65536 → Small (message (codes "/hall/no") (nu
 unfolding encode text_bytes filled_bytes
 small-no x l = small (message (codes "/hall/no") (number (pos x) ∷ [])) refl refl (encodable x l, tt) (omega arith)
 
+-- the message of two numbers
+pub small_two : (a : List ℕ) → get_or a 0 0 ≡ 47 → nonzero a ≡ true → (x y : ℕ) → x < 65536 → y < 65536 → length (encode (message a (number (pos x) ∷ number (pos y) ∷ []))) ≤ 24
+    → Small (message a (number (pos x) ∷ number (pos y) ∷ []))
+small_two a slash letters x y l m = small (message a (number (pos x) ∷ number (pos y) ∷ [])) slash letters (encodable x l, (encodable y m, tt))
+
 pub small_word : (x y : ℕ) → x < 65536 → y < 65536 → Small (message (codes "/hall/word") (number (pos x) ∷ number (pos y) ∷ []))
 unfolding encode text_bytes filled_bytes
-small_word x y l m = small (message (codes "/hall/word") (number (pos x) ∷ number (pos y) ∷ [])) refl refl (encodable x l, (encodable y m, tt)) (omega arith)
+small_word x y l m = small_two (codes "/hall/word") refl refl x y l m (omega arith)
 
 pub small-lamp : (x y : ℕ) → x < 65536 → y < 65536 → Small (message (codes "/hall/lamp") (number (pos x) ∷ number (pos y) ∷ []))
 unfolding encode text_bytes filled_bytes
-small-lamp x y l m = small (message (codes "/hall/lamp") (number (pos x) ∷ number (pos y) ∷ [])) refl refl (encodable x l, (encodable y m, tt)) (omega arith)
+small-lamp x y l m = small_two (codes "/hall/lamp") refl refl x y l m (omega arith)

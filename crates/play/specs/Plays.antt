@@ -15,10 +15,10 @@ use Rattle.hall.specs.declared.call.Call.{Call}
 use Rattle.hall.specs.declared.call.Call.TheVariants.{Open, Round, Strike, Mark, Clear, Read, Lamp}
 use Rattle.hall.specs.Halls.{Model, meant, put, asked}
 use Rattle.hall.specs.Histories.{Had}
-use Rattle.play.specs.declared.reply.Reply.{Reply}
-use Rattle.play.specs.declared.reply.Reply.TheVariants.{Done as done, Word as told_word, Lamp as told_lamp, No}
+use Rattle.play.specs.declared.reply.Told.{Told}
+use Rattle.play.specs.declared.reply.Told.TheVariants.{Done as done, Word as told_word, Lamp as told_lamp}
 use Rattle.play.specs.Asks.{Asks}
-use Rattle.play.specs.Replies.{content_in, Framed, NoRoom}
+use Rattle.play.specs.Replies.{Reply, content_in, Framed, NoRoom}
 
 -- the station that a call asks about, 0 where it asks about none
 abbrev pub station_in : {K : Type 0} → Call K → ℕ
@@ -32,10 +32,16 @@ station_in (Lamp p) = p
 
 -- the reply to a call that was answered so
 abbrev pub reply_to : {K : Type 0} → (K → ℕ) → Call K → Result (Answer K) Refusal → Reply
-reply_to code c (Ok Done) = done
-reply_to code c (Ok (Word w)) = told_word (station_in c) (code w)
-reply_to code c (Ok (Lit x)) = told_lamp (station_in c) x
-reply_to code c (Err e) = No e
+reply_to code c (Ok Done) = Ok done
+reply_to code c (Ok (Word w)) = Ok (told_word (station_in c) (code w))
+reply_to code c (Ok (Lit x)) = Ok (told_lamp (station_in c) x)
+reply_to code c (Err e) = Err e
+
+-- the same of a call by an answer that it can have: only a read answers a word, and only a question for a lamp 1 or 0
+abbrev pub told_of : {K : Type 0} → (K → ℕ) → Call K → Answer K → Told
+told_of code (Read p) (Word w) = told_word p (code w)
+told_of code (Lamp p) (Lit x) = told_lamp p x
+told_of code _ _ = done
 
 -- the calls that are made where a packet asks so: one, or none where it is refused
 abbrev pub calls_of : {K : Type 0} → Result (Call K) Refusal → List ℕ → List (Asked K)
@@ -54,7 +60,7 @@ module _ {R Q K : Type 0} (v : wires.Ghosts R) (g : rigs.Ghosts R) (q : rules.Gh
 
   abbrev pub reply_for : Model R Q K → List ℕ → Result (Call K) Refusal → Reply
   reply_for x sheet (Ok c) = reply_to k.code c (reply (meant v g q k x) x.state (asked c sheet))
-  reply_for x sheet (Err e) = No e
+  reply_for x sheet (Err e) = Err e
 
   -- whatever calls led to x, these and those that are made lead to y, and the stations agree after them
   abbrev pub Follows : Model R Q K → List (Asked K) → Model R Q K → Type 0

@@ -1,19 +1,23 @@
 -- What goes back for a packet.
-use Rattle.std.specs.Prelude.{◌≡◌, ℕ, ◌<◌, List, [], ◌∷◌, ◌++◌, length, drop, pos, codes}
+use Rattle.std.specs.Prelude.{◌≡◌, ℕ, ◌<◌, List, [], ◌∷◌, ◌++◌, length, drop, pos, Ok, Err, codes, Result}
 use Rattle.refusals.specs.declared.Refusal.{Refusal}
 use Rattle.refusals.specs.declared.Refusal.TheVariants.{BufferTooShort}
 use Rattle.refusals.specs.Refusals.{number_of}
 use Rattle.packets.specs.Osc.{word, Content, number, Means}
 use Rattle.packets.specs.Encode.{encode}
-use Rattle.play.specs.declared.reply.Reply.{Reply}
-use Rattle.play.specs.declared.reply.Reply.TheVariants.{Done, Word, Lamp, No}
+use Rattle.play.specs.declared.reply.Told.{Told}
+use Rattle.play.specs.declared.reply.Told.TheVariants.{Done, Word, Lamp}
+
+-- what a call comes to: what is told of it, or its refusal
+abbrev pub Reply : Type 0
+Reply = Result Told Refusal
 
 -- the message of a reply
 abbrev pub content_in : Reply → Content
-content_in Done = record { address = codes "/hall/ok"; arguments = [] }
-content_in (Word station code) = record { address = codes "/hall/word"; arguments = number (pos station) ∷ number (pos code) ∷ [] }
-content_in (Lamp station lit) = record { address = codes "/hall/lamp"; arguments = number (pos station) ∷ number (pos lit) ∷ [] }
-content_in (No e) = record { address = codes "/hall/no"; arguments = number (pos (number_of e)) ∷ [] }
+content_in (Ok Done) = record { address = codes "/hall/ok"; arguments = [] }
+content_in (Ok (Word station code)) = record { address = codes "/hall/word"; arguments = number (pos station) ∷ number (pos code) ∷ [] }
+content_in (Ok (Lamp station lit)) = record { address = codes "/hall/lamp"; arguments = number (pos station) ∷ number (pos lit) ∷ [] }
+content_in (Err e) = record { address = codes "/hall/no"; arguments = number (pos (number_of e)) ∷ [] }
 
 -- an int32 size, the highest byte first, and the message of that size
 unfoldable pub framed : Content → List ℕ

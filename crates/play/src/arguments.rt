@@ -11,10 +11,7 @@ pub fn no_argument(message: Message<'_>) -> bool
     ensures { (vs : List Value) → Left message.entry vs → result ≡ is_none vs }
 {
     let mut left = message;
-    match left.next() {
-        None => true,
-        Some(_) => false,
-    }
+    left.next().is_none()
 }
 
 // The next argument, if it is a number.
@@ -35,11 +32,7 @@ pub fn three_numbers(message: Message<'_>) -> Option<(i32, i32, i32)>
     let x = next_number(&mut left)?;
     let y = next_number(&mut left)?;
     let z = next_number(&mut left)?;
-    if no_argument(left) {
-        Some((x, y, z))
-    } else {
-        None
-    }
+    no_argument(left).then_some((x, y, z))
 }
 
 // The number that is the one argument, or none.
@@ -47,11 +40,6 @@ pub fn one_number(message: Message<'_>) -> Option<i32>
     ensures { (vs : List Value) → Left message.entry vs → result ≡ one_number vs }
 {
     let mut left = message;
-    match left.next() {
-        Some(Argument::Number(n)) => match left.next() {
-            None => Some(n),
-            Some(_) => None,
-        },
-        _ => None,
-    }
+    let n = next_number(&mut left)?;
+    no_argument(left).then_some(n)
 }

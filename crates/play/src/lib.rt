@@ -5,7 +5,7 @@ ghost use Rattle.std.specs.Prelude.{◌≡◌, List, length, MatchResult};
 ghost use Rattle.agreement.specs.Calls.{next, reply as replied, sheet_after};
 ghost use Rattle.hall.specs.Halls.{model, meant, put, asked};
 ghost use Rattle.hall.specs.Histories.{Continues};
-ghost use Rattle.play.specs.Plays.{station_in as station_of, reply_to, Answered, Plays, Unplayed};
+ghost use Rattle.play.specs.Plays.{told_of, reply_to, Answered, Plays, Unplayed};
 
 pub mod arguments;
 pub mod asks;
@@ -18,35 +18,22 @@ use asks::asks;
 use hall::call::Call;
 use hall::parts::Hall;
 use refusals::Refusal;
-use reply::{Reply, has_room, put_reply};
+use reply::{Reply, Told, has_room, put_reply};
 use rigs::Rig;
 use rules::Rule;
 use words::WordKind;
 
-// The station that a call asks about, 0 where it asks about none.
-fn station_of<K: WordKind>(call: Call<K>) -> u16
-    ensures { result ≡ station_of call }
+// What is told of a call that was answered so: only a read answers a word, and only a question for a lamp 1 or 0.
+fn told<K: WordKind>(call: Call<K>, answer: Answer<K>) -> Told
+    ensures { result ≡ told_of K.WordKind.code call answer }
 {
-    match call {
-        Call::Read(station) => station,
-        Call::Lamp(station) => station,
-        _ => 0,
-    }
-}
-
-// The reply to a call that was answered so.
-fn reply_to<K: WordKind>(call: Call<K>, answer: Result<Answer<K>, Refusal>) -> Reply
-    ensures { result ≡ reply_to K.WordKind.code call answer }
-{
-    let station = station_of(call);
-    match answer {
-        Ok(Answer::Done) => Reply::Done,
-        Ok(Answer::Word(word)) => Reply::Word {
+    match (call, answer) {
+        (Call::Read(station), Answer::Word(word)) => Told::Word {
             station,
             code: word.encode(),
         },
-        Ok(Answer::Lit(lit)) => Reply::Lamp { station, lit },
-        Err(refusal) => Reply::No(refusal),
+        (Call::Lamp(station), Answer::Lit(lit)) => Told::Lamp { station, lit },
+        _ => Told::Done,
     }
 }
 
@@ -61,8 +48,8 @@ pub fn perform<R: Rig, Q: Rule, K: WordKind>(
     ensures sheet { sheet.new ≡ sheet_after (meant R.Wire R.Rig.own Q.Rule K.WordKind (model hall.old)) (model hall.old).state (asked call sheet.old) sheet.old }
     ensures history { Continues R.Wire R.Rig.own Q.Rule K.WordKind (model hall.old) (asked call sheet.old) (model hall.new) }
 {
-    let answer = hall.call(call, sheet);
-    reply_to(call, answer)
+    let answer = hall.call(call, sheet)?;
+    Ok(told(call, answer))
 }
 
 // Makes the call that the packet names, if it names one: what is replied.
@@ -74,10 +61,7 @@ fn answer<R: Rig, Q: Rule, K: WordKind>(
     ensures { Answered R.Wire R.Rig.own Q.Rule K.WordKind packet.now (model hall.old) sheet.old (model hall.new) sheet.new result }
 {
     hall.agrees();
-    match asks::<K>(packet) {
-        Ok(call) => perform(hall, call, sheet),
-        Err(refusal) => Reply::No(refusal),
-    }
+    perform(hall, asks(packet)?, sheet)
 }
 
 // Makes the call that the packet names and writes the reply with its size to the front of the buffer: how long both are. A buffer under 28 bytes is refused, and then nothing is changed at all.

@@ -1,6 +1,10 @@
 // The calls by the addresses of their messages.
-ghost use Rattle.std.specs.Prelude.{◌≡◌, MatchOption, ◌≢◌};
+ghost use Rattle.std.specs.Prelude.{◌≡◌, MatchResult, ◌≢◌};
+ghost use Rattle.refusals.specs.declared.Refusal.TheVariants.{UnknownAddress};
+ghost use Rattle.play.specs.declared.name.Name.{Name};
 ghost use Rattle.play.specs.Names.{address_of};
+
+use refusals::Refusal;
 
 // The names of the calls on a hall.
 #[derive(Clone, Copy)]
@@ -14,28 +18,22 @@ pub enum Name {
     Lamp,
 }
 
-// The call whose address this text is.
-fn by_text(address: &str) -> Option<Name>
-    ensures { MatchOption result ((c : Name) → address.now ≢ address_of c) (λ c. address.now ≡ address_of c) }
-{
-    match address {
-        "/hall/open" => Some(Name::Open),
-        "/hall/round" => Some(Name::Round),
-        "/hall/strike" => Some(Name::Strike),
-        "/hall/mark" => Some(Name::Mark),
-        "/hall/clear" => Some(Name::Clear),
-        "/hall/read" => Some(Name::Read),
-        "/hall/lamp" => Some(Name::Lamp),
-        _ => None,
-    }
-}
+// The call whose address this is, or the refusal.
+impl TryFrom<&[u8]> for Name {
+    type Error = Refusal;
 
-// The call whose address this is, or none.
-pub fn by_address(address: &[u8]) -> Option<Name>
-    ensures { MatchOption result ((c : Name) → address.now ≢ address_of c) (λ c. address.now ≡ address_of c) }
-{
-    match std::str::from_utf8(address) {
-        Ok(text) => by_text(text),
-        Err(_) => None,
+    ghost try_from_gives = { λ address r. MatchResult r (λ c. address.now ≡ address_of c) (λ e. (e ≡ UnknownAddress) × ((c : Name) → address.now ≢ address_of c)) };
+
+    fn try_from(address: &[u8]) -> Result<Name, Refusal> {
+        match std::str::from_utf8(address) {
+            Ok("/hall/open") => Ok(Name::Open),
+            Ok("/hall/round") => Ok(Name::Round),
+            Ok("/hall/strike") => Ok(Name::Strike),
+            Ok("/hall/mark") => Ok(Name::Mark),
+            Ok("/hall/clear") => Ok(Name::Clear),
+            Ok("/hall/read") => Ok(Name::Read),
+            Ok("/hall/lamp") => Ok(Name::Lamp),
+            _ => Err(Refusal::UnknownAddress),
+        }
     }
 }

@@ -8,29 +8,19 @@ use words::WordKind;
 pub fn short(number: i32) -> Option<u16>
     ensures { result ≡ short_in number }
 {
-    if (number < 0) | (number > 65535) {
-        None
-    } else {
-        Some(number as u16)
-    }
+    u16::try_from(number).ok()
 }
 
 // A station: outside 0 to 65,535 it counts as 65,535, which no hall has.
 pub fn station(number: i32) -> u16
     ensures { result ≡ station_in number }
 {
-    match short(number) {
-        Some(station) => station,
-        None => 65535,
-    }
+    short(number).unwrap_or(u16::MAX)
 }
 
 // The word that the number is the code of, or none.
 pub fn word<K: WordKind>(number: i32) -> Option<K>
     ensures { result ≡ word_in K.WordKind.word number }
 {
-    match short(number) {
-        Some(code) => K::decode(code),
-        None => None,
-    }
+    short(number).and_then(|code| K::decode(code))
 }

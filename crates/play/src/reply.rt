@@ -1,5 +1,5 @@
 // What goes back for a packet: a size and a message.
-ghost use Rattle.std.specs.Prelude.{◌≡◌, ℕ, ◌+◌, ◌<◌, ◌≤◌, List, [], ◌++◌, length, MatchResult, nat_le};
+ghost use Rattle.std.specs.Prelude.{◌≡◌, ℕ, ◌+◌, ◌<◌, ◌≤◌, List, [], ◌++◌, length, MatchResult, pos, nat_le};
 ghost use Rattle.packets.specs.Osc.{word, Encoding};
 ghost use Rattle.packets.specs.Encode.{encode};
 ghost use Rattle.packets.specs.Write.{content_of, Placed};
@@ -8,14 +8,16 @@ ghost use Rattle.play.specs.Replies.{framed, content_in, Framed, NoRoom};
 use packets::{Entry, write_message};
 use refusals::Refusal;
 
-// What a call comes to: done with nothing to tell, a word's code, 1 or 0 for a lamp, or refused.
+// What is told of a call that is not refused: that it is done, a word's code, or 1 or 0 for a lamp.
 #[derive(Clone, Copy)]
-pub enum Reply {
+pub enum Told {
     Done,
     Word { station: u16, code: u16 },
     Lamp { station: u16, lit: u16 },
-    No(Refusal),
 }
+
+// What a call comes to: what is told of it, or its refusal.
+pub type Reply = Result<Told, Refusal>;
 
 // How many bytes every reply finds room in, with its size.
 const ROOM: usize = 28;
@@ -28,6 +30,13 @@ fn size_bytes(size: usize) -> [u8; 4]
     (size as u32).to_be_bytes()
 }
 
+// A number as an argument to be written.
+fn number(x: u16) -> Entry
+    ensures { result ≡ Entry.Number (pos x) }
+{
+    Entry::Number(x.into())
+}
+
 // Writes the size and the message to the front of the buffer, and says how long both are.
 fn put(out: &mut [u8], address: &[u8], entries: &[Entry]) -> usize
     requires encodes { Encoding (content_of address.now [] entries.now) (encode (content_of address.now [] entries.now)) }
@@ -35,11 +44,21 @@ fn put(out: &mut [u8], address: &[u8], entries: &[Entry]) -> usize
     requires room { 4 + length (encode (content_of address.now [] entries.now)) ≤ length out.old }
     ensures { Framed (content_of address.now [] entries.now) out.old out.new result }
 {
-    let Ok(size) = write_message(address, entries, &[], &mut out[4..]) else {
-        return unreachable();
-    };
+    let size = write_message(address, entries, &[], &mut out[4..]).unwrap();
     out[0..4].copy_from_slice(&size_bytes(size));
     size + 4
+}
+
+// Writes what is told where there is room for any reply.
+fn put_told(told: Told, out: &mut [u8]) -> usize
+    requires { 28 ≤ length out.old }
+    ensures { Framed (content_in (Ok told)) out.old out.new result }
+{
+    match told {
+        Told::Done => put(out, b"/hall/ok", &[]),
+        Told::Word { station, code } => put(out, b"/hall/word", &[number(station), number(code)]),
+        Told::Lamp { station, lit } => put(out, b"/hall/lamp", &[number(station), number(lit)]),
+    }
 }
 
 // Writes a reply where there is room for any.
@@ -48,18 +67,8 @@ pub(crate) fn put_reply(reply: Reply, out: &mut [u8]) -> usize
     ensures { Framed (content_in reply) out.old out.new result }
 {
     match reply {
-        Reply::Done => put(out, b"/hall/ok", &[]),
-        Reply::Word { station, code } => put(
-            out,
-            b"/hall/word",
-            &[Entry::Number(station as i32), Entry::Number(code as i32)],
-        ),
-        Reply::Lamp { station, lit } => put(
-            out,
-            b"/hall/lamp",
-            &[Entry::Number(station as i32), Entry::Number(lit as i32)],
-        ),
-        Reply::No(refusal) => put(out, b"/hall/no", &[Entry::Number(refusal.number() as i32)]),
+        Ok(told) => put_told(told, out),
+        Err(refusal) => put(out, b"/hall/no", &[number(refusal.number().into())]),
     }
 }
 

@@ -10,7 +10,7 @@ use crate::order::{Order, read_order};
 use hall::call::Call;
 use hall::parts::Hall;
 use play::perform;
-use play::reply::{Reply, has_room, write_reply};
+use play::reply::{Reply, Told, has_room, write_reply};
 use refusals::Refusal;
 use rig_kinds::script::ScriptRig;
 use rules::count::CountRule;
@@ -29,23 +29,24 @@ impl Console {
     pub fn new() -> Console
         ensures { hall_in result ≡ None }
     {
-        Console::Waiting
+        Console { hall: None }
     }
 
     // Makes the hall, or refuses where there is one or the numbers make no rule. Where there is no memory nothing is made.
     fn make(&mut self, heap: Global, making: Making<'_>) -> Result<Reply, AllocError>
         ensures { MatchResult result (Made (wanted making.entry) (hall_in self.old) (hall_in self.new)) (λ _. hall_in self.new ≡ hall_in self.old) }
     {
-        if let Console::Made(_) = self {
-            return Ok(Reply::No(Refusal::AlreadyMade));
+        if self.hall.is_some() {
+            return Ok(Err(Refusal::AlreadyMade));
         }
+        // A refusal is a reply here and no error, so `?` serves the want of memory alone.
         match CountRule::new(making.n, making.t) {
             Ok(rule) => {
                 let list = entries(heap, making.script)?;
-                *self = Console::Made(Hall::new(ScriptRig { list }, rule, making.rest));
-                Ok(Reply::Done)
+                self.hall = Some(Hall::new(ScriptRig { list }, rule, making.rest));
+                Ok(Ok(Told::Done))
             }
-            Err(refusal) => Ok(Reply::No(refusal)),
+            Err(refusal) => Ok(Err(refusal)),
         }
     }
 
@@ -53,10 +54,8 @@ impl Console {
     fn call(&mut self, call: Call<Gate>, sheet: &mut [u16]) -> Reply
         ensures { Performed call (hall_in self.old) sheet.old (hall_in self.new) sheet.new result }
     {
-        match self {
-            Console::Made(hall) => perform(hall, call, sheet),
-            Console::Waiting => Reply::No(Refusal::NotMade),
-        }
+        let hall = self.hall.as_mut().ok_or(Refusal::NotMade)?;
+        perform(hall, call, sheet)
     }
 
     // What is replied to a packet, after what it asks for is done. Where there is no memory nothing is done.
@@ -69,9 +68,9 @@ impl Console {
         ensures { MatchResult result (Answered packet.now (hall_in self.old) sheet.old (hall_in self.new) sheet.new) (λ _. (hall_in self.new ≡ hall_in self.old) × (sheet.new ≡ sheet.old)) }
     {
         match read_order(packet) {
-            Ok(Order::Make(making)) => Ok(self.make(heap, making)?),
+            Ok(Order::Make(making)) => self.make(heap, making),
             Ok(Order::Call(call)) => Ok(self.call(call, sheet)),
-            Err(refusal) => Ok(Reply::No(refusal)),
+            Err(refusal) => Ok(Err(refusal)),
         }
     }
 
@@ -88,12 +87,9 @@ impl Console {
         if !has_room(out.len()) {
             return Err(Stop::NoRoom);
         }
-        let Ok(reply) = self.answer(heap, packet, sheet) else {
-            return Err(Stop::NoMemory);
-        };
-        match write_reply(reply, out) {
-            Ok(length) => Ok(length),
-            Err(_) => Err(Stop::NoRoom),
-        }
+        let reply = self
+            .answer(heap, packet, sheet)
+            .map_err(|_| Stop::NoMemory)?;
+        write_reply(reply, out).map_err(|_| Stop::NoRoom)
     }
 }

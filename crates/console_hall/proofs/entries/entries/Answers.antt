@@ -1,12 +1,9 @@
-use Rattle.std.proofs.Common.{arith}
-use Rattle.std.proofs.lemmas.List.FromFn.{map-range_with_len_more}
-use Rattle.console_hall.specs.Making.{entry_at}
+use Rattle.std.proofs.Common.{◌≡◌, ℕ, ◌/◌, List, length, IfOk, subst, rules}
+use Rattle.std.proofs.iter.runs.Made.{chains}
+use Rattle.console_hall.proofs.Pairs.{pairs_are}
 use Rattle.console_hall.proofs.entries.entries.Goals as goal
 
-pub loop-i-preserved : goal.loop-i-preserved
-loop-i-preserved c =
-    let items = c.in_ok-push.ensures.items in
-    let more = map-range_with_len_more (entry_at c.args.bytes.now) 0 c.loop-i.i c.loop-i.i (omega arith) in
-    let entry = c.entry_at.ensures in
-    let inv = c.loop-i.invariant in
-    cc
+pub returns : goal.returns
+returns c =
+    let bytes = c.args.bytes.now in
+    subst (λ (ns : List ℕ). IfOk c.collect.result (λ v. v.items ≡ ns)) (pairs_are bytes 0 (length bytes / 2)) (search (rules, chains))

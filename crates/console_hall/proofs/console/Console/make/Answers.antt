@@ -1,17 +1,16 @@
-use Rattle.std.proofs.Common.{Some, sym, refl, subst, inr}
+use Rattle.std.proofs.Common.{◌≡◌, false, is_some, Some, None, Option, refl, inr}
 use Rattle.hall.specs.Halls.{model}
-use Rattle.play.specs.declared.reply.Reply.TheVariants.{Done}
-use Rattle.console_hall.specs.declared.console.Console.{Console}
-use Rattle.console_hall.specs.Making.{wanted}
-use Rattle.console_hall.specs.Serving.{hall_in, Made}
 use Rattle.console_hall.proofs.console.Console.make.Goals as goal
+
+none_is : {A : Type 0} (o : Option A) → is_some o ≡ false → o ≡ None
+none_is None e = refl
+none_is (Some x) e = cc
 
 pub returns-in_ok-list-in-Ok : goal.returns-in_ok-list-in-Ok
 returns-in_ok-list-in-Ok c =
     let lawful = c.in-Ok.ensures in
-    subst (λ (z : Console). Made (wanted c.args.making) (hall_in z) (Some (model c.new-in-Ok.result)) Done)
-    (sym c.in_default.is)
-    (inr (
+    let none = none_is c.args.self.now.hall cc in
+    rw none (inr (
       lawful.0,
       refl,
       (

@@ -1,11 +1,12 @@
 use Rattle.std.proofs.Common.{◌≡◌, ℕ, ◌<◌, Bool, true, ◌&&◌, ltb, List, [], ◌∷◌, IsUtf8, IsAscii, sym, refl, subst}
 use Rattle.std.proofs.ByRecursion.{IsAscii-from_all, Decides-by_and}
 use Rattle.std.proofs.lemmas.Str.{IsUtf8-from_ascii}
+use Rattle.std.proofs.lemmas.Result.{MatchResult-at_err}
 use Rattle.std.proofs.lemmas.Bool.Decides.{Decides-ltb}
 use Rattle.play.specs.declared.name.Name.{Name}
 use Rattle.play.specs.declared.name.Name.TheVariants.{Open, Round, Strike, Mark, Clear, Read, Lamp}
 use Rattle.play.specs.Names.{address_of}
-use Rattle.play.proofs.name.by_address.Goals as goal
+use Rattle.play.proofs.name.NameTryFromRefSliceU8.try_from.Goals as goal
 
 abbrev low : List ℕ → Bool
 low [] = true
@@ -23,5 +24,7 @@ plain Clear = low_ascii (address_of Clear) refl
 plain Read = low_ascii (address_of Read) refl
 plain Lamp = low_ascii (address_of Lamp) refl
 
-pub returns-in-Err : goal.returns-in-Err
-returns-in-Err c = λ k e. c.in-Err.ensures.cases.0 (subst IsUtf8 (sym e) (IsUtf8-from_ascii (address_of k) (plain k)))
+pub returns-in_default-2 : goal.returns-in_default-2
+returns-in_default-2 c =
+    let bad = (MatchResult-at_err _ _ _ c.in_default.is c.from_utf8.ensures.cases).0 in
+    (refl, λ k e. bad (subst IsUtf8 (sym e) (IsUtf8-from_ascii (address_of k) (plain k))))
