@@ -40,6 +40,7 @@ impl fmt::Display for Expected {
 }
 
 // Why reading stops: the text is not as expected, or there is no memory.
+// Apart from rule_line's: in a type for both, From of any Expected would overlap with From of a failed allocation.
 #[derive(Drop)]
 pub enum Stop {
     Text(Expected),
@@ -95,7 +96,7 @@ fn entries(heap: Global, scanner: &mut Scanner) -> Result<Vec<u16>, Stop> {
     let mut list = Vec::new(heap);
     scanner.skip_blanks();
     while !scanner.at_end() {
-        list.push(number(scanner, 65535).ok_or(Expected::Entry)?)?;
+        list.push(number(scanner, u16::MAX).ok_or(Expected::Entry)?)?;
         scanner.skip_blanks();
     }
     Ok(list)
@@ -155,7 +156,7 @@ fn setting(heap: Global, scanner: &mut Scanner) -> Result<Option<Setting>, Stop>
     } else if scanner.take_word(b"words") {
         Setting::Words(kind(scanner)?)
     } else if scanner.take_word(b"rest") {
-        Setting::Rest(number(scanner, 65535).ok_or(Expected::Code)?)
+        Setting::Rest(number(scanner, u16::MAX).ok_or(Expected::Code)?)
     } else if scanner.take_word(b"rig") {
         Setting::Rig(rig(heap, scanner)?)
     } else if scanner.take_word(b"patches") {

@@ -157,25 +157,18 @@ fn under<R>(patch: Option<Patch>, rig: R) -> Under<R>
     }
 }
 
-// The entries once more.
-fn copied(heap: Global, entries: &[u16]) -> Result<Vec<u16>, AllocError>
-    ensures { IfOk result (λ v. v.items ≡ entries.now) }
-{
-    entries.iter().copied().collect(heap)
-}
-
 // A rig of the kind that is set.
 fn bare_rig(heap: Global, rig: &RigSetting) -> Result<BareRig, AllocError>
     ensures { IfOk result (BareOf rig.now) }
 {
     match rig {
         RigSetting::Script(entries) => {
-            let list = copied(heap, entries.as_slice())?;
+            let list = entries.to_vec(heap)?;
             Ok(Either::First(ScriptRig { list }))
         }
         RigSetting::Noise(seed) => Ok(Either::Second(Either::First(NoiseRig { seed: *seed }))),
         RigSetting::Torn(entries) => {
-            let list = copied(heap, entries.as_slice())?;
+            let list = entries.to_vec(heap)?;
             let weak = TornRig {
                 script: ScriptRig { list },
             };
