@@ -26,5 +26,7 @@ fn mix_entry(hash: u32, entry: u16) -> u32
 pub fn digest(sheet: &[u16]) -> u32
     ensures { result ≡ digest_of sheet.now }
 {
-    sheet.iter().fold(START, |hash, entry| mix_entry(hash, *entry))
+    sheet
+        .iter()
+        .fold(START, |hash, entry| mix_entry(hash, *entry))
 }
