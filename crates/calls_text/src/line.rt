@@ -1,6 +1,6 @@
 // A line of a script of calls.
-ghost use Rattle.std.specs.Prelude.{◌≡◌, ◌≤◌, Bool, true, ◌||◌, length, IfSome, OnSome, nat_le};
-ghost use Rattle.scan.specs.Steps.{stands_at};
+ghost use Rattle.std.specs.Prelude.{◌≤◌, IfSome, OnSome};
+ghost use Rattle.settings.specs.Lines.{Ended};
 ghost use Rattle.calls_text.specs.Commands.{Fits};
 
 use hall::call::Call;
@@ -16,9 +16,7 @@ pub enum Command {
 }
 
 // What an opening asks for.
-fn opening(scanner: &mut Scanner) -> Option<Call<u16>>
-    ensures same { scanner.new.text.now ≡ scanner.old.text.now }
-{
+fn opening(scanner: &mut Scanner) -> Option<Call<u16>> {
     Some(Call::Open {
         take: number(scanner, u16::MAX)?,
         caller: number(scanner, u16::MAX)?,
@@ -28,8 +26,7 @@ fn opening(scanner: &mut Scanner) -> Option<Call<u16>>
 
 // How many entries the sheet of a round has.
 fn entries(scanner: &mut Scanner) -> Option<u16>
-    ensures value { IfSome result (λ count. count ≤ 8192) }
-    ensures same { scanner.new.text.now ≡ scanner.old.text.now }
+    ensures { IfSome result (λ count. count ≤ 8192) }
 {
     scanner.skip_blanks();
     if scanner.at_end() {
@@ -39,9 +36,7 @@ fn entries(scanner: &mut Scanner) -> Option<u16>
 }
 
 // A call on one station.
-fn on_station(scanner: &mut Scanner) -> Option<Call<u16>>
-    ensures same { scanner.new.text.now ≡ scanner.old.text.now }
-{
+fn on_station(scanner: &mut Scanner) -> Option<Call<u16>> {
     if scanner.take_word(b"mark") {
         number(scanner, u16::MAX).map(Call::Mark)
     } else if scanner.take_word(b"clear") {
@@ -57,8 +52,7 @@ fn on_station(scanner: &mut Scanner) -> Option<Call<u16>>
 
 // The command that stands next.
 fn asked(scanner: &mut Scanner) -> Option<Command>
-    ensures value { IfSome result Fits }
-    ensures same { scanner.new.text.now ≡ scanner.old.text.now }
+    ensures { IfSome result Fits }
 {
     if scanner.take_word(b"make") {
         Some(Command::Make)
@@ -77,8 +71,7 @@ fn asked(scanner: &mut Scanner) -> Option<Command>
 // The command that stands next, up to the end of the line; none where it cannot be read.
 pub fn whole(scanner: &mut Scanner) -> Option<Command>
     ensures value { IfSome result Fits }
-    ensures ended { OnSome result ((nat_le (length scanner.new.text.now) scanner.new.at || stands_at scanner.new.text.now scanner.new.at 35) ≡ true) }
-    ensures same { scanner.new.text.now ≡ scanner.old.text.now }
+    ensures ended { OnSome result (Ended scanner.new.text.now scanner.new.at) }
 {
     let command = asked(scanner)?;
     end(scanner).ok()?;

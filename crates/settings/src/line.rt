@@ -1,6 +1,6 @@
 // Settings in lines of text.
-ghost use Rattle.std.specs.Prelude.{◌≡◌, ◌<◌, ◌≤◌, Bool, true, false, ◌||◌, length, IfOk, OnOk, OnErr, MatchOption, nat_le};
-ghost use Rattle.scan.specs.Steps.{stands_at};
+ghost use Rattle.std.specs.Prelude.{◌≡◌, ◌<◌, ◌≤◌, true, false, IfOk, OnOk, OnErr, MatchOption};
+ghost use Rattle.settings.specs.Lines.{Ended};
 ghost use Rattle.settings.specs.Makings.{OneSet};
 
 use crate::making::{Floors, Kind, RigSetting, Setting, Settings};
@@ -40,7 +40,7 @@ impl fmt::Display for Expected {
 }
 
 // Why reading stops: the text is not as expected, or there is no memory.
-// Apart from rule_line's: in a type for both, From of any Expected would overlap with From of a failed allocation.
+// Apart from rule_line's: a type for both would still want From of each Expected, and a map from the one to the other.
 #[derive(Drop)]
 pub enum Stop {
     Text(Expected),
@@ -70,8 +70,7 @@ impl<T: Drop> From<AllocFailed<T>> for Stop {
 
 // Past the end of the line, or what was expected there.
 pub fn end(scanner: &mut Scanner) -> Result<(), Expected>
-    ensures ended { OnOk result ((nat_le (length scanner.new.text.now) scanner.new.at || stands_at scanner.new.text.now scanner.new.at 35) ≡ true) }
-    ensures same { scanner.new.text.now ≡ scanner.old.text.now }
+    ensures { OnOk result (Ended scanner.new.text.now scanner.new.at) }
 {
     scanner.skip_blanks();
     if scanner.at_end() {
@@ -172,7 +171,7 @@ impl Settings {
     pub fn take(&mut self, heap: Global, scanner: &mut Scanner) -> Result<bool, Stop>
         ensures untaken { IfOk result (λ taken. (taken ≡ false → self.new ≡ self.old)) }
         ensures after { IfOk result (λ taken. (taken ≡ true → OneSet self.old self.new)) }
-        ensures ended { IfOk result (λ taken. (taken ≡ true → (nat_le (length scanner.new.text.now) scanner.new.at || stands_at scanner.new.text.now scanner.new.at 35) ≡ true)) }
+        ensures ended { IfOk result (λ taken. (taken ≡ true → Ended scanner.new.text.now scanner.new.at)) }
         ensures refused { OnErr result (self.new ≡ self.old) }
     {
         let Some(setting) = setting(heap, scanner)? else {
