@@ -1,2 +1,3 @@
 pub mod Digests
 pub mod Coded
+pub mod Commands

@@ -1,7 +1,7 @@
 // The digest of a sheet: FNV-1a of 32 bits over its entries, each as two bytes, the high byte first.
-ghost use Rattle.std.specs.Prelude.{◌≡◌, ℕ, ◌*◌, ◌/◌, ◌%◌, ◌^◌};
+ghost use Rattle.std.specs.Prelude.{◌≡◌, ◌*◌, ◌/◌, ◌%◌, ◌^◌};
 ghost use Rattle.std.specs.Int.Bits.{bit_xor};
-ghost use Rattle.calls_text.specs.Digests.{mixed, digest_of};
+ghost use Rattle.calls_text.specs.Digests.{mixed, mixed_entry, digest_of};
 
 // What the digest of no bytes is.
 const START: u32 = 2166136261;
@@ -13,27 +13,20 @@ fn mix(hash: u32, byte: u8) -> u32
     (hash ^ u32::from(byte)).wrapping_mul(16777619)
 }
 
-// The high byte of an entry.
-fn high(entry: u16) -> u8
-    ensures { result ≡ entry / 256 }
+// The digest with an entry more.
+fn mix_entry(hash: u32, entry: u16) -> u32
+    ensures { result ≡ mixed_entry hash entry }
 {
-    (entry / 256) as u8
-}
-
-// The low byte of an entry.
-fn low(entry: u16) -> u8
-    ensures { result ≡ entry % 256 }
-{
-    (entry % 256) as u8
+    let [high, low] = entry.to_be_bytes();
+    mix(mix(hash, high), low)
 }
 
 // The digest of a sheet.
+#[tactic(auto, unfolding(crate::specs::Digests::digest_of))]
 pub fn digest(sheet: &[u16]) -> u32
     ensures { result ≡ digest_of sheet.now }
 {
-    let mut hash = START;
-    for entry in sheet {
-        hash = mix(mix(hash, high(*entry)), low(*entry));
-    }
-    hash
+    sheet
+        .iter()
+        .fold(START, |hash, entry| mix_entry(hash, *entry))
 }

@@ -1,7 +1,11 @@
 // A line of a script of calls.
+ghost use Rattle.std.specs.Prelude.{◌≤◌, IfSome, OnSome};
+ghost use Rattle.settings.specs.Lines.{Ended};
+ghost use Rattle.calls_text.specs.Commands.{Fits};
+
 use hall::call::Call;
 use scan::scanner::Scanner;
-use settings::line::end;
+use settings::line::{end, number};
 
 // What a line asks for. Calls have codes in place of words, and a round has the number of its sheet's entries.
 #[derive(Clone, Copy)]
@@ -11,23 +15,19 @@ pub enum Command {
     Call(Call<u16>),
 }
 
-// The number that stands next, 0 to `most`.
-fn number(scanner: &mut Scanner, most: u16) -> Option<u16> {
-    scanner.skip_blanks();
-    let value = scanner.number(u32::from(most))?;
-    Some(value as u16)
-}
-
 // What an opening asks for.
 fn opening(scanner: &mut Scanner) -> Option<Call<u16>> {
-    let take = number(scanner, 65535)?;
-    let caller = number(scanner, 65535)?;
-    let word = number(scanner, 65535)?;
-    Some(Call::Open { take, caller, word })
+    Some(Call::Open {
+        take: number(scanner, u16::MAX)?,
+        caller: number(scanner, u16::MAX)?,
+        word: number(scanner, u16::MAX)?,
+    })
 }
 
 // How many entries the sheet of a round has.
-fn entries(scanner: &mut Scanner) -> Option<u16> {
+fn entries(scanner: &mut Scanner) -> Option<u16>
+    ensures { IfSome result (λ count. count ≤ 8192) }
+{
     scanner.skip_blanks();
     if scanner.at_end() {
         return Some(4100);
@@ -38,40 +38,41 @@ fn entries(scanner: &mut Scanner) -> Option<u16> {
 // A call on one station.
 fn on_station(scanner: &mut Scanner) -> Option<Call<u16>> {
     if scanner.take_word(b"mark") {
-        return Some(Call::Mark(number(scanner, 65535)?));
+        number(scanner, u16::MAX).map(Call::Mark)
+    } else if scanner.take_word(b"clear") {
+        number(scanner, u16::MAX).map(Call::Clear)
+    } else if scanner.take_word(b"read") {
+        number(scanner, u16::MAX).map(Call::Read)
+    } else if scanner.take_word(b"lamp") {
+        number(scanner, u16::MAX).map(Call::Lamp)
+    } else {
+        None
     }
-    if scanner.take_word(b"clear") {
-        return Some(Call::Clear(number(scanner, 65535)?));
-    }
-    if scanner.take_word(b"read") {
-        return Some(Call::Read(number(scanner, 65535)?));
-    }
-    if scanner.take_word(b"lamp") {
-        return Some(Call::Lamp(number(scanner, 65535)?));
-    }
-    None
 }
 
 // The command that stands next.
-fn asked(scanner: &mut Scanner) -> Option<Command> {
+fn asked(scanner: &mut Scanner) -> Option<Command>
+    ensures { IfSome result Fits }
+{
     if scanner.take_word(b"make") {
-        return Some(Command::Make);
-    }
-    if scanner.take_word(b"round") {
+        Some(Command::Make)
+    } else if scanner.take_word(b"round") {
         let entries = entries(scanner)?;
-        return Some(Command::Round { entries });
+        Some(Command::Round { entries })
+    } else if scanner.take_word(b"open") {
+        opening(scanner).map(Command::Call)
+    } else if scanner.take_word(b"strike") {
+        Some(Command::Call(Call::Strike))
+    } else {
+        on_station(scanner).map(Command::Call)
     }
-    if scanner.take_word(b"open") {
-        return Some(Command::Call(opening(scanner)?));
-    }
-    if scanner.take_word(b"strike") {
-        return Some(Command::Call(Call::Strike));
-    }
-    Some(Command::Call(on_station(scanner)?))
 }
 
 // The command that stands next, up to the end of the line; none where it cannot be read.
-pub fn whole(scanner: &mut Scanner) -> Option<Command> {
+pub fn whole(scanner: &mut Scanner) -> Option<Command>
+    ensures value { IfSome result Fits }
+    ensures ended { OnSome result (Ended scanner.new.text.now scanner.new.at) }
+{
     let command = asked(scanner)?;
     end(scanner).ok()?;
     Some(command)

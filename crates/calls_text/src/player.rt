@@ -23,40 +23,40 @@ use words::scene::Scene;
 // What each entry of a sheet holds before its round.
 const BEFORE: u16 = 9;
 
-// The hall that was made last, of one word kind or the other.
+// A hall of one word kind or the other.
 #[derive(Drop)]
-pub enum LastHall {
-    Unmade,
+pub enum AnyHall {
     OfGates(Hall<SomeRig, SomeRule, Gate>),
     OfScenes(Hall<SomeRig, SomeRule, Scene>),
 }
 
-// The settings of the halls made from here on, and the hall that was made last.
+// The settings of the halls made from here on, and the hall that was made last, if any was.
 #[derive(Drop)]
 pub struct Player {
     settings: Settings,
-    hall: LastHall,
+    hall: Option<AnyHall>,
 }
 
-// The call with a word in place of a code, refused where the code is no word's.
+// The call with a word in place of a code, refused where the code is no word's. A function: TryFrom for a type of another crate is that crate's to write.
 pub fn worded<K: WordKind>(call: Call<u16>) -> Result<Call<K>, Refusal>
     ensures { MatchResult result (Worded K.WordKind.word call) (λ e. (e ≡ is_no_word) × Wordless K.WordKind.word call) }
 {
-    match call {
-        Call::Open { take, caller, word } => {
-            let word = word_of(word)?;
-            Ok(Call::Open { take, caller, word })
-        }
-        Call::Round => Ok(Call::Round),
-        Call::Strike => Ok(Call::Strike),
-        Call::Mark(station) => Ok(Call::Mark(station)),
-        Call::Clear(station) => Ok(Call::Clear(station)),
-        Call::Read(station) => Ok(Call::Read(station)),
-        Call::Lamp(station) => Ok(Call::Lamp(station)),
-    }
+    Ok(match call {
+        Call::Open { take, caller, word } => Call::Open {
+            take,
+            caller,
+            word: word_of(word)?,
+        },
+        Call::Round => Call::Round,
+        Call::Strike => Call::Strike,
+        Call::Mark(station) => Call::Mark(station),
+        Call::Clear(station) => Call::Clear(station),
+        Call::Read(station) => Call::Read(station),
+        Call::Lamp(station) => Call::Lamp(station),
+    })
 }
 
-// The answer with the code of its word.
+// The answer with the code of its word. A function: From for a type of another crate is that crate's to write.
 fn coded<K: WordKind>(answer: Answer<K>) -> Answer<u16> {
     match answer {
         Answer::Done => Answer::Done,
@@ -71,14 +71,10 @@ fn ask<R: Rig, Q: Rule, K: WordKind>(
     call: Call<u16>,
     sheet: &mut [u16],
 ) -> Result<Answer<u16>, Refusal> {
-    let call = worded(call)?;
-    Ok(coded(hall.call(call, sheet)?))
+    hall.call(worded(call)?, sheet).map(coded)
 }
 
 // The refusal of a call where no hall was made yet, for words of this kind.
 fn unmade<K: WordKind>(call: Call<u16>) -> Refusal {
-    match worded::<K>(call) {
-        Ok(_) => Refusal::NotMade,
-        Err(refusal) => refusal,
-    }
+    worded::<K>(call).err().unwrap_or(Refusal::NotMade)
 }

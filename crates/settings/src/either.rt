@@ -6,7 +6,7 @@ use rigs::keys::{TrioKey, WireKey};
 use rigs::{Rig, Wire};
 use rules::Rule;
 
-// The one or the other.
+// The one or the other. An enum, since a boxed rig or rule may not be handed out; of our own, since another crate's type cannot take another crate's trait.
 #[derive(Drop)]
 pub enum Either<A, B> {
     First(A),

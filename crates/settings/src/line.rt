@@ -1,8 +1,9 @@
 // Settings in lines of text.
-ghost use Rattle.std.specs.Prelude.{◌≡◌, Bool, true, false, ◌||◌, length, IfOk, OnOk, nat_le};
-ghost use Rattle.scan.specs.Steps.{stands_at};
+ghost use Rattle.std.specs.Prelude.{◌≡◌, ◌<◌, ◌≤◌, true, false, IfOk, OnOk, OnErr, MatchOption};
+ghost use Rattle.settings.specs.Lines.{Ended};
+ghost use Rattle.settings.specs.Makings.{OneSet};
 
-use crate::making::{Floors, Kind, RigSetting, Settings};
+use crate::making::{Floors, Kind, RigSetting, Setting, Settings};
 use plan_text::line as rule_line;
 use scan::scanner::Scanner;
 use std::alloc::{AllocFailed, Global};
@@ -39,6 +40,7 @@ impl fmt::Display for Expected {
 }
 
 // Why reading stops: the text is not as expected, or there is no memory.
+// Apart from rule_line's: a type for both would still want From of each Expected, and a map from the one to the other.
 #[derive(Drop)]
 pub enum Stop {
     Text(Expected),
@@ -68,7 +70,7 @@ impl<T: Drop> From<AllocFailed<T>> for Stop {
 
 // Past the end of the line, or what was expected there.
 pub fn end(scanner: &mut Scanner) -> Result<(), Expected>
-    ensures { OnOk result ((nat_le (length scanner.new.text.now) scanner.new.at || stands_at scanner.new.text.now scanner.new.at 35) ≡ true) }
+    ensures { OnOk result (Ended scanner.new.text.now scanner.new.at) }
 {
     scanner.skip_blanks();
     if scanner.at_end() {
@@ -78,110 +80,105 @@ pub fn end(scanner: &mut Scanner) -> Result<(), Expected>
     }
 }
 
+// The number that stands next after blanks, 0 to `most`.
+pub fn number(scanner: &mut Scanner, most: u16) -> Option<u16>
+    ensures value { MatchOption result (scanner.old.at ≤ scanner.new.at) (λ v. (v ≤ most) × (scanner.old.at < scanner.new.at)) }
+    ensures same { scanner.new.text.now ≡ scanner.old.text.now }
+{
+    scanner.skip_blanks();
+    let value = scanner.number(u32::from(most))?;
+    Some(value as u16)
+}
+
 // The entries of a rig, up to the end of the line.
 fn entries(heap: Global, scanner: &mut Scanner) -> Result<Vec<u16>, Stop> {
     let mut list = Vec::new(heap);
-    for _ in 0..scanner.len() {
+    scanner.skip_blanks();
+    while !scanner.at_end() {
+        list.push(number(scanner, u16::MAX).ok_or(Expected::Entry)?)?;
         scanner.skip_blanks();
-        if scanner.at_end() {
-            break;
-        }
-        match scanner.number(65535) {
-            Some(entry) => list.push(entry as u16)?,
-            None => return Err(Stop::Text(Expected::Entry)),
-        }
     }
     Ok(list)
 }
 
-// The rig that stands next, up to the end of the line.
+// The rig that stands next.
 fn rig(heap: Global, scanner: &mut Scanner) -> Result<RigSetting, Stop> {
-    if scanner.take_word(b"script") {
-        return Ok(RigSetting::Script(entries(heap, scanner)?));
-    }
-    if scanner.take_word(b"torn") {
-        return Ok(RigSetting::Torn(entries(heap, scanner)?));
-    }
-    if !scanner.take_word(b"noise") {
-        return Err(Stop::Text(Expected::Rig));
-    }
     scanner.skip_blanks();
-    let Some(seed) = scanner.number(u32::MAX) else {
-        return Err(Stop::Text(Expected::Seed));
-    };
-    end(scanner)?;
-    Ok(RigSetting::Noise(seed))
-}
-
-// The kind of words that stands next, up to the end of the line.
-fn kind(scanner: &mut Scanner) -> Result<Kind, Expected> {
-    let kind = if scanner.take_word(b"gate") {
-        Kind::Gate
-    } else if scanner.take_word(b"scene") {
-        Kind::Scene
+    if scanner.take_word(b"script") {
+        Ok(RigSetting::Script(entries(heap, scanner)?))
+    } else if scanner.take_word(b"torn") {
+        Ok(RigSetting::Torn(entries(heap, scanner)?))
+    } else if scanner.take_word(b"noise") {
+        scanner.skip_blanks();
+        let seed = scanner.number(u32::MAX).ok_or(Expected::Seed)?;
+        Ok(RigSetting::Noise(seed))
     } else {
-        return Err(Expected::Words);
-    };
-    end(scanner)?;
-    Ok(kind)
+        Err(Stop::Text(Expected::Rig))
+    }
 }
 
-// The code that stands next, up to the end of the line.
-fn code(scanner: &mut Scanner) -> Result<u16, Expected> {
-    let Some(code) = scanner.number(65535) else {
-        return Err(Expected::Code);
-    };
-    end(scanner)?;
-    Ok(code as u16)
+// The kind of words that stands next.
+fn kind(scanner: &mut Scanner) -> Result<Kind, Expected> {
+    scanner.skip_blanks();
+    if scanner.take_word(b"gate") {
+        Ok(Kind::Gate)
+    } else if scanner.take_word(b"scene") {
+        Ok(Kind::Scene)
+    } else {
+        Err(Expected::Words)
+    }
 }
 
-// The patch that stands next, or none at the end of the line.
+// The number of the patch that stands next, or none at the end of the line.
 fn patch(scanner: &mut Scanner) -> Result<Option<u64>, Expected> {
     scanner.skip_blanks();
     if scanner.at_end() {
         return Ok(None);
     }
-    match scanner.sixteen_digits() {
-        Some(number) => Ok(Some(number)),
-        None => Err(Expected::Patch),
-    }
+    scanner.sixteen_digits().map(Some).ok_or(Expected::Patch)
 }
 
-// The patches up to the end of the line, the top one first.
-fn floors(scanner: &mut Scanner) -> Result<Floors, Expected> {
-    let top = patch(scanner)?;
-    let middle = patch(scanner)?;
-    let bottom = patch(scanner)?;
-    end(scanner)?;
+// The numbers of the patches that stand next, the top one first.
+fn floors(scanner: &mut Scanner) -> Result<Floors<u64>, Expected> {
     Ok(Floors {
-        top,
-        middle,
-        bottom,
+        top: patch(scanner)?,
+        middle: patch(scanner)?,
+        bottom: patch(scanner)?,
     })
+}
+
+// The setting that stands next, if one does.
+fn setting(heap: Global, scanner: &mut Scanner) -> Result<Option<Setting>, Stop> {
+    let setting = if scanner.take_word(b"rule") {
+        scanner.skip_blanks();
+        Setting::Rule(rule_line::request(heap, scanner)?)
+    } else if scanner.take_word(b"words") {
+        Setting::Words(kind(scanner)?)
+    } else if scanner.take_word(b"rest") {
+        Setting::Rest(number(scanner, u16::MAX).ok_or(Expected::Code)?)
+    } else if scanner.take_word(b"rig") {
+        Setting::Rig(rig(heap, scanner)?)
+    } else if scanner.take_word(b"patches") {
+        Setting::Patches(floors(scanner)?)
+    } else {
+        return Ok(None);
+    };
+    Ok(Some(setting))
 }
 
 impl Settings {
     // Takes the setting that stands next, up to the end of the line, and says whether there is one.
     pub fn take(&mut self, heap: Global, scanner: &mut Scanner) -> Result<bool, Stop>
-        ensures { IfOk result (λ taken. (taken ≡ false → self.new ≡ self.old)) }
+        ensures untaken { IfOk result (λ taken. (taken ≡ false → self.new ≡ self.old)) }
+        ensures after { IfOk result (λ taken. (taken ≡ true → OneSet self.old self.new)) }
+        ensures ended { IfOk result (λ taken. (taken ≡ true → Ended scanner.new.text.now scanner.new.at)) }
+        ensures refused { OnErr result (self.new ≡ self.old) }
     {
-        if scanner.take_word(b"rule") {
-            scanner.skip_blanks();
-            self.rule = rule_line::request(heap, scanner)?;
-        } else if scanner.take_word(b"words") {
-            scanner.skip_blanks();
-            self.kind = kind(scanner)?;
-        } else if scanner.take_word(b"rest") {
-            scanner.skip_blanks();
-            self.rest = code(scanner)?;
-        } else if scanner.take_word(b"rig") {
-            scanner.skip_blanks();
-            self.rig = rig(heap, scanner)?;
-        } else if scanner.take_word(b"patches") {
-            self.floors = floors(scanner)?;
-        } else {
+        let Some(setting) = setting(heap, scanner)? else {
             return Ok(false);
-        }
+        };
+        end(scanner)?;
+        self.set(setting);
         Ok(true)
     }
 }

@@ -1,9 +1,10 @@
 // The rig, the rule and the rest word of a hall, made from its settings.
-ghost use Rattle.std.specs.Prelude.{◌≡◌, ℕ, take, IfOk, Some, None, MatchResult};
+ghost use Rattle.std.specs.Prelude.{◌≡◌, ℕ, IfOk, Some, None, MatchResult};
 ghost use Rattle.refusals.specs.declared.Refusal.TheVariants.{NoWord as is_no_word, UnlawfulRule as is_unlawful, DigitTwice as is_twice};
 ghost use Rattle.rules.specs.Group.{GroupMade};
 ghost use Rattle.planner.specs.declared.plan.Request.TheVariants.{Count as asks_count};
-ghost use Rattle.settings.specs.Makings.{Sound, RuleOf, PatchOf, TwiceIn, under_of, BareOf, CheckedOf, PartsOf, NotMade};
+ghost use Rattle.settings.specs.Makings.{Sound, GroupOf, RuleOf, PatchOf, TwiceIn, PatchesOf, TwiceAmong, under_of, BareOf, with_setting, CheckedOf, PartsOf, NotMade, UnmadeFor};
+ghost use Rattle.settings.specs.declared.making.Unmade.TheVariants.{Refused as is_refused, Memory as is_short};
 
 use crate::either::Either;
 use mender::mender::Mender;
@@ -34,12 +35,12 @@ pub enum RigSetting {
     Torn(Vec<u16>),
 }
 
-// The numbers of up to three patches over the rig.
+// Up to three patches over the rig, or their numbers.
 #[derive(Clone, Copy)]
-pub struct Floors {
-    pub top: Option<u64>,
-    pub middle: Option<u64>,
-    pub bottom: Option<u64>,
+pub struct Floors<T> {
+    pub top: Option<T>,
+    pub middle: Option<T>,
+    pub bottom: Option<T>,
 }
 
 // What a hall is to be made of. The rest word is given by its code.
@@ -49,7 +50,17 @@ pub struct Settings {
     pub kind: Kind,
     pub rest: u16,
     pub rig: RigSetting,
-    pub floors: Floors,
+    pub floors: Floors<u64>,
+}
+
+// One of the settings of a hall.
+#[derive(Drop)]
+pub enum Setting {
+    Rule(Request),
+    Words(Kind),
+    Rest(u16),
+    Rig(RigSetting),
+    Patches(Floors<u64>),
 }
 
 // A count rule or a group rule.
@@ -69,9 +80,7 @@ pub type SomeRig = Under<Under<Under<BareRig>>>;
 pub struct Checked<K> {
     pub rest: K,
     pub rule: SomeRule,
-    pub top: Option<Patch>,
-    pub middle: Option<Patch>,
-    pub bottom: Option<Patch>,
+    pub patches: Floors<Patch>,
 }
 
 // What a hall is made of.
@@ -82,25 +91,43 @@ pub struct Parts<K> {
     pub rest: K,
 }
 
+// Why there are no parts: the settings are refused, or there is no memory.
+#[derive(Clone, Copy, Debug, PartialEq, Eq)]
+pub enum Unmade {
+    Refused(Refusal),
+    Memory,
+}
+
+impl From<Refusal> for Unmade {
+    ghost from_gives = { λ refusal e. e ≡ is_refused refusal };
+
+    fn from(refusal: Refusal) -> Unmade {
+        Unmade::Refused(refusal)
+    }
+}
+
+impl From<AllocError> for Unmade {
+    ghost from_gives = { λ _ e. e ≡ is_short };
+
+    fn from(_e: AllocError) -> Unmade {
+        Unmade::Memory
+    }
+}
+
 // The word of a code, refused where the number is no word's.
 pub fn word_of<K: WordKind>(code: u16) -> Result<K, Refusal>
     ensures { MatchResult result (λ w. K.WordKind.word code ≡ Some w) (λ e. (e ≡ is_no_word) × (K.WordKind.word code ≡ None)) }
 {
-    match K::decode(code) {
-        Some(word) => Ok(word),
-        None => Err(Refusal::NoWord),
-    }
+    K::decode(code).ok_or(Refusal::NoWord)
 }
 
 // The group rule of n stations and these masks, refused where there is none.
-fn group_rule(n: u16, masks: &[u16]) -> Result<GroupRule, Refusal>
-    ensures { MatchResult result (λ q. (q.n ≡ n) × (take q.count q.masks ≡ masks.now)) (λ e. (e ≡ is_unlawful) × (GroupMade n masks.now → ⊥)) }
+fn group_rule(n: u16, masks: &[u16]) -> Result<SomeRule, Refusal>
+    ensures { MatchResult result (GroupOf n masks.now) (λ e. (e ≡ is_unlawful) × (GroupMade n masks.now → ⊥)) }
 {
     let mut rule = GroupRule::new();
-    match rule.make(n, masks) {
-        Ok(()) => Ok(rule),
-        Err(refusal) => Err(refusal),
-    }
+    rule.make(n, masks)?;
+    Ok(Either::Second(rule))
 }
 
 // The rule that is asked for, refused where there is none.
@@ -109,10 +136,7 @@ pub fn rule_of(request: &Request) -> Result<SomeRule, Refusal>
 {
     match request {
         Request::Count { n, t } => Ok(Either::First(CountRule::new(*n, *t)?)),
-        Request::Group { n, masks } => match group_rule(*n, masks.as_slice()) {
-            Ok(rule) => Ok(Either::Second(rule)),
-            Err(refusal) => Err(refusal),
-        },
+        Request::Group { n, masks } => group_rule(*n, masks.as_slice()),
     }
 }
 
@@ -120,10 +144,7 @@ pub fn rule_of(request: &Request) -> Result<SomeRule, Refusal>
 fn patch_of(number: Option<u64>) -> Result<Option<Patch>, Refusal>
     ensures { MatchResult result (PatchOf number) (λ e. (e ≡ is_twice) × TwiceIn number) }
 {
-    match number {
-        Some(number) => Ok(Some(Patch::new(number)?)),
-        None => Ok(None),
-    }
+    number.map(Patch::new).transpose()
 }
 
 // A rig under this patch, if there is one.
@@ -136,25 +157,18 @@ fn under<R>(patch: Option<Patch>, rig: R) -> Under<R>
     }
 }
 
-// The entries once more.
-fn copied(heap: Global, entries: &[u16]) -> Result<Vec<u16>, AllocError>
-    ensures { IfOk result (λ v. v.items ≡ entries.now) }
-{
-    entries.iter().copied().collect(heap)
-}
-
 // A rig of the kind that is set.
 fn bare_rig(heap: Global, rig: &RigSetting) -> Result<BareRig, AllocError>
     ensures { IfOk result (BareOf rig.now) }
 {
     match rig {
         RigSetting::Script(entries) => {
-            let list = copied(heap, entries.as_slice())?;
+            let list = entries.to_vec(heap)?;
             Ok(Either::First(ScriptRig { list }))
         }
         RigSetting::Noise(seed) => Ok(Either::Second(Either::First(NoiseRig { seed: *seed }))),
         RigSetting::Torn(entries) => {
-            let list = copied(heap, entries.as_slice())?;
+            let list = entries.to_vec(heap)?;
             let weak = TornRig {
                 script: ScriptRig { list },
             };
@@ -163,20 +177,25 @@ fn bare_rig(heap: Global, rig: &RigSetting) -> Result<BareRig, AllocError>
     }
 }
 
-impl<K> Checked<K> {
-    // The parts of a hall on this rig, with the patches over it.
-    fn over(self, rig: BareRig) -> Parts<K>
-        ensures { (result.rig ≡ under_of self.top (under_of self.middle (under_of self.bottom rig))) × ((result.rule ≡ self.rule) × (result.rest ≡ self.rest)) }
+impl Floors<u64> {
+    // The patches of these numbers, refused from the top where a digit occurs twice.
+    fn patches(self) -> Result<Floors<Patch>, Refusal>
+        ensures { MatchResult result (PatchesOf self) (λ e. (e ≡ is_twice) × TwiceAmong self) }
     {
-        let Checked {
-            rest,
-            rule,
-            top,
-            middle,
-            bottom,
-        } = self;
-        let rig = under(top, under(middle, under(bottom, rig)));
-        Parts { rig, rule, rest }
+        Ok(Floors {
+            top: patch_of(self.top)?,
+            middle: patch_of(self.middle)?,
+            bottom: patch_of(self.bottom)?,
+        })
+    }
+}
+
+impl Floors<Patch> {
+    // The rig with these patches over it.
+    fn over<R>(self, rig: R) -> Under<Under<Under<R>>>
+        ensures { result ≡ under_of self.top (under_of self.middle (under_of self.bottom rig)) }
+    {
+        under(self.top, under(self.middle, under(self.bottom, rig)))
     }
 }
 
@@ -198,31 +217,43 @@ impl Settings {
         }
     }
 
+    // Sets one setting anew.
+    pub(crate) fn set(&mut self, setting: Setting)
+        ensures { self.new ≡ with_setting self.old setting }
+    {
+        match setting {
+            Setting::Rule(rule) => self.rule = rule,
+            Setting::Words(kind) => self.kind = kind,
+            Setting::Rest(code) => self.rest = code,
+            Setting::Rig(rig) => self.rig = rig,
+            Setting::Patches(floors) => self.floors = floors,
+        }
+    }
+
     // The parts that the settings name, for words of this kind. The rest word is checked first, then the patches from the top, then the rule.
     pub fn checked<K: WordKind>(&self) -> Result<Checked<K>, Refusal>
         ensures { MatchResult result (CheckedOf (K.WordKind.word self.now.rest) self.now) (NotMade (K.WordKind.word self.now.rest) self.now) }
     {
         let rest = word_of(self.rest)?;
-        let top = patch_of(self.floors.top)?;
-        let middle = patch_of(self.floors.middle)?;
-        let bottom = patch_of(self.floors.bottom)?;
+        let patches = self.floors.patches()?;
         let rule = rule_of(&self.rule)?;
         Ok(Checked {
             rest,
             rule,
-            top,
-            middle,
-            bottom,
+            patches,
         })
     }
 
     // What a hall with words of this kind is made of, or the refusal of what is checked.
-    pub fn parts<K: WordKind>(&self, heap: Global) -> Result<Result<Parts<K>, Refusal>, AllocError>
-        ensures { IfOk result (λ q. MatchResult q (PartsOf (K.WordKind.word self.now.rest) self.now) (NotMade (K.WordKind.word self.now.rest) self.now)) }
+    pub fn parts<K: WordKind>(&self, heap: Global) -> Result<Parts<K>, Unmade>
+        ensures { MatchResult result (PartsOf (K.WordKind.word self.now.rest) self.now) (UnmadeFor (K.WordKind.word self.now.rest) self.now) }
     {
-        match self.checked() {
-            Ok(checked) => Ok(Ok(checked.over(bare_rig(heap, &self.rig)?))),
-            Err(refusal) => Ok(Err(refusal)),
-        }
+        let Checked {
+            rest,
+            rule,
+            patches,
+        } = self.checked()?;
+        let rig = patches.over(bare_rig(heap, &self.rig)?);
+        Ok(Parts { rig, rule, rest })
     }
 }
