@@ -1,8 +1,8 @@
-// A line of the planner's input: what it asks for, or what was expected where it cannot be read.
+// A line of the planner's input: the rule that it asks for, or what was expected where it cannot be read.
 use planner::plan::Request;
 use scan::scanner::Scanner;
 use scan::scanner::stations::SetFault;
-use std::alloc::{AllocError, AllocFailed, Global};
+use std::alloc::{AllocFailed, Global};
 use std::fmt;
 
 // What was expected where a line cannot be read.
@@ -29,14 +29,6 @@ impl fmt::Display for Expected {
             Expected::End => f.write_str("the end of the line"),
         }
     }
-}
-
-// A line is blank, or asks for a rule, or cannot be read from some column on.
-#[derive(Drop)]
-pub enum Line {
-    Blank,
-    Asks(Request),
-    Unreadable { column: usize, expected: Expected },
 }
 
 // Why reading stops: the text is not as expected, or there is no memory.
@@ -72,21 +64,17 @@ impl From<SetFault> for Stop {
 // The number that stands next, 0 to 65,535.
 fn number(scanner: &mut Scanner, expected: Expected) -> Result<u16, Expected> {
     scanner.skip_blanks();
-    match scanner.number(65535) {
-        Some(value) => Ok(value as u16),
-        None => Err(expected),
-    }
+    let value = scanner.number(65535).ok_or(expected)?;
+    Ok(value as u16)
 }
 
 // The sets up to the end of the line.
 fn sets(heap: Global, scanner: &mut Scanner) -> Result<Vec<u16>, Stop> {
     let mut masks = Vec::new(heap);
-    for _ in 0..scanner.len() {
-        scanner.skip_blanks();
-        if scanner.at_end() {
-            break;
-        }
+    scanner.skip_blanks();
+    while !scanner.at_end() {
         masks.push(scanner.set()?)?;
+        scanner.skip_blanks();
     }
     Ok(masks)
 }
@@ -113,21 +101,4 @@ pub fn request(heap: Global, scanner: &mut Scanner) -> Result<Request, Stop> {
         return Ok(Request::Group { n, masks });
     }
     Err(Stop::Text(Expected::Rule))
-}
-
-// What the bytes of a line say.
-pub(crate) fn read_line(heap: Global, text: &[u8]) -> Result<Line, AllocError> {
-    let mut scanner = Scanner::new(text);
-    scanner.skip_blanks();
-    if scanner.at_end() {
-        return Ok(Line::Blank);
-    }
-    match request(heap, &mut scanner) {
-        Ok(request) => Ok(Line::Asks(request)),
-        Err(Stop::Text(expected)) => Ok(Line::Unreadable {
-            column: scanner.column(),
-            expected,
-        }),
-        Err(Stop::Memory) => Err(AllocError),
-    }
 }

@@ -1,70 +1,63 @@
 // What the planner says to a line, in words.
 ghost use Rattle.std.specs.Prelude.{ℕ, IfOk};
+ghost use Rattle.planner.specs.Plans.{Answers};
 ghost use Rattle.plan_text.specs.Reports.{Reported};
 
-use crate::line::{Expected, Line, read_line};
-use planner::plan::{Outcome, Plan, Request, answer};
-use refusals::Refusal;
-use rules::flaw::Flaw;
+use crate::line::{Expected, Stop, request};
+use planner::plan::{Plan, Request, Unmade, answer};
 use rules::king::Kings;
+use scan::scanner::Scanner;
 use sets::text::Listed;
 use std::alloc::{AllocError, Global};
 use std::fmt;
 
+// What is said of a rule: what was asked for, and its plan or why there is none.
+#[derive(Drop)]
+pub struct Planned {
+    pub request: Request,
+    pub outcome: Result<Plan, Unmade>,
+}
+
+// Where a line cannot be read, and what was expected there.
+#[derive(Clone, Copy)]
+pub struct Unreadable {
+    pub column: usize,
+    pub expected: Expected,
+}
+
 // The answer to one line of input.
 #[derive(Drop)]
-pub enum Report {
-    Nothing,
-    Planned {
-        line: u64,
-        request: Request,
-        outcome: Outcome,
-    },
-    Unreadable {
-        line: u64,
-        column: usize,
-        expected: Expected,
-    },
+pub struct Report {
+    pub line: u64,
+    pub answer: Result<Planned, Unreadable>,
 }
 
-// The report on line number `line`, which holds these bytes.
-pub fn on_line(heap: Global, line: u64, text: &[u8]) -> Result<Report, AllocError>
+// What is said of the rule that is asked for.
+fn plan_asked(heap: Global, request: Request) -> Result<Planned, AllocError>
+    ensures { IfOk result (λ p. Answers p.request p.outcome) }
+{
+    let outcome = answer(heap, &request)?;
+    Ok(Planned { request, outcome })
+}
+
+// The report on line number `line`, which holds these bytes; none where it is blank.
+pub fn on_line(heap: Global, line: u64, text: &[u8]) -> Result<Option<Report>, AllocError>
     ensures { IfOk result (Reported line) }
 {
-    match read_line(heap, text)? {
-        Line::Blank => Ok(Report::Nothing),
-        Line::Unreadable { column, expected } => Ok(Report::Unreadable {
-            line,
-            column,
+    let mut scanner = Scanner::new(text);
+    scanner.skip_blanks();
+    if scanner.at_end() {
+        return Ok(None);
+    }
+    let answer = match request(heap, &mut scanner) {
+        Ok(request) => Ok(plan_asked(heap, request)?),
+        Err(Stop::Text(expected)) => Err(Unreadable {
+            column: scanner.column(),
             expected,
         }),
-        Line::Asks(request) => {
-            let outcome = answer(heap, &request)?;
-            Ok(Report::Planned {
-                line,
-                request,
-                outcome,
-            })
-        }
-    }
-}
-
-// The rule that is asked for.
-fn write_request<W: fmt::Write>(f: &mut fmt::Formatter<W>, request: &Request) -> fmt::Result {
-    match request {
-        Request::Count { n, t } => write!(
-            f,
-            "{n} stations, of which any {t} may be broken together"
-        ),
-        Request::Group { n, masks } => {
-            write!(f, "{n} stations, of which any one may be broken")?;
-            for m in masks.iter() {
-                let set = Listed { set: *m };
-                write!(f, ", or all of {set}")?;
-            }
-            Ok(())
-        }
-    }
+        Err(Stop::Memory) => return Err(AllocError),
+    };
+    Ok(Some(Report { line, answer }))
 }
 
 // The largest sets that can fail: for a count rule how many there are, for a group rule each of them.
@@ -90,14 +83,11 @@ fn write_largest<W: fmt::Write>(
 }
 
 // The refusal with its number, and why.
-fn write_refusal<W: fmt::Write>(
-    f: &mut fmt::Formatter<W>,
-    refusal: &Refusal,
-    flaw: &Option<Flaw>,
-) -> fmt::Result {
+fn write_refusal<W: fmt::Write>(f: &mut fmt::Formatter<W>, unmade: &Unmade) -> fmt::Result {
+    let refusal = unmade.refusal;
     let number = refusal.number();
     write!(f, "  refused with {number}: {refusal}\n")?;
-    match flaw {
+    match unmade.flaw {
         Some(why) => write!(f, "  because {why}\n"),
         None => Ok(()),
     }
@@ -116,37 +106,34 @@ fn write_rows<W: fmt::Write>(f: &mut fmt::Formatter<W>, kings: &[Kings]) -> fmt:
     Ok(())
 }
 
+impl fmt::Display for Planned {
+    fn fmt<W: fmt::Write>(&self, f: &mut fmt::Formatter<W>) -> fmt::Result {
+        let request = &self.request;
+        write!(f, "{request}\n")?;
+        match &self.outcome {
+            Ok(plan) => {
+                f.write_str("  made\n")?;
+                write_largest(f, request, plan)?;
+                write_rows(f, plan.kings.as_slice())
+            }
+            Err(unmade) => write_refusal(f, unmade),
+        }
+    }
+}
+
+impl fmt::Display for Unreadable {
+    fn fmt<W: fmt::Write>(&self, f: &mut fmt::Formatter<W>) -> fmt::Result {
+        let Unreadable { column, expected } = self;
+        write!(f, "cannot be read at column {column}: expected {expected}\n")
+    }
+}
+
 impl fmt::Display for Report {
     fn fmt<W: fmt::Write>(&self, f: &mut fmt::Formatter<W>) -> fmt::Result {
-        match self {
-            Report::Nothing => Ok(()),
-            Report::Unreadable {
-                line,
-                column,
-                expected,
-            } => {
-                write!(
-                    f,
-                    "line {line}: cannot be read at column {column}: expected {expected}\n"
-                )
-            }
-            Report::Planned {
-                line,
-                request,
-                outcome,
-            } => {
-                write!(f, "line {line}: ")?;
-                write_request(f, request)?;
-                f.write_str("\n")?;
-                match outcome {
-                    Outcome::Refused { refusal, flaw } => write_refusal(f, refusal, flaw),
-                    Outcome::Made(plan) => {
-                        f.write_str("  made\n")?;
-                        write_largest(f, request, plan)?;
-                        write_rows(f, plan.kings.as_slice())
-                    }
-                }
-            }
+        let line = self.line;
+        match &self.answer {
+            Ok(planned) => write!(f, "line {line}: {planned}"),
+            Err(unreadable) => write!(f, "line {line}: {unreadable}"),
         }
     }
 }
