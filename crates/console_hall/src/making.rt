@@ -19,7 +19,7 @@ pub struct Arguments<'a> {
     pub script: &'a [u8],
 }
 
-// A making: n, t, the rest word, and the bytes of the script, two to an entry.
+// A making: n, t, the rest word, and the bytes of the script, two to an entry. It is a type apart from the arguments: what a call takes has been checked, and one type over both would not show which it is.
 #[derive(Clone, Copy)]
 pub struct Making<'a> {
     pub n: u16,
@@ -28,7 +28,7 @@ pub struct Making<'a> {
     pub script: &'a [u8],
 }
 
-// The next argument, if it is a blob.
+// The next argument, if it is a blob. One function over this and the next number would take a closure for the one case that each names.
 fn next_blob<'a>(left: &mut Message<'a>) -> Option<&'a [u8]>
     ensures { (vs : List Value) → Left left.old vs → MatchOption result (head_blob vs ≡ None) (λ b. (ws : List Value) × ((vs ≡ blob b.now ∷ ws) × Left left.new ws)) }
 {
@@ -58,23 +58,29 @@ fn is_odd(bytes: usize) -> bool
 }
 
 // A making with these arguments, or the refusal.
-fn making_from<'a>(arguments: Arguments<'a>) -> Result<Making<'a>, Refusal>
-    ensures { MatchResult result (λ m. making_from (Some (in_message arguments.entry)) ≡ Ok (wanted m)) (λ e. making_from (Some (in_message arguments.entry)) ≡ Err e) }
-{
-    if is_odd(arguments.script.len()) {
-        return Err(Refusal::OddScript);
+impl<'a> TryFrom<Arguments<'a>> for Making<'a> {
+    type Error = Refusal;
+
+    ghost try_from_gives = { λ arguments r. MatchResult r (λ m. making_from (Some (in_message arguments)) ≡ Ok (wanted m)) (λ e. making_from (Some (in_message arguments)) ≡ Err e) };
+
+    fn try_from(arguments: Arguments<'a>) -> Result<Making<'a>, Refusal> {
+        if is_odd(arguments.script.len()) {
+            return Err(Refusal::OddScript);
+        }
+        Ok(Making {
+            n: station(arguments.n),
+            t: station(arguments.t),
+            rest: word(arguments.rest).ok_or(Refusal::NoWord)?,
+            script: arguments.script,
+        })
     }
-    Ok(Making {
-        n: station(arguments.n),
-        t: station(arguments.t),
-        rest: word(arguments.rest).ok_or(Refusal::NoWord)?,
-        script: arguments.script,
-    })
 }
 
 // The making that a message asks for, or the refusal.
 pub fn read_making<'a>(message: Message<'a>) -> Result<Making<'a>, Refusal>
     ensures { (vs : List Value) → Left message.entry vs → MatchResult result (λ m. making_of vs ≡ Ok (wanted m)) (λ e. making_of vs ≡ Err e) }
 {
-    making_from(four_arguments(message).ok_or(Refusal::WrongTags)?)
+    four_arguments(message)
+        .ok_or(Refusal::WrongTags)?
+        .try_into()
 }

@@ -27,6 +27,7 @@ fn size_bytes(size: usize) -> [u8; 4]
     requires { size < 65536 }
     ensures { result ≡ word size }
 {
+    // `as`, since the size is known to fit, and no `From` leads from usize to u32.
     (size as u32).to_be_bytes()
 }
 
