@@ -21,7 +21,7 @@ loop-count-preserved g c =
       more,
       c.with-set.ensures ∙ king_joins n (g.R.Rule.fails r) (met.sized r) (met.apart r) caller c.requires k c.loop-count.set c.king_number.result more same c.king_number.ensures,
       below_more (λ j. g.R.Rule.fails r (with_caller caller (first_others n caller j)) ≡ true) k c.loop-count.invariant.2
-        (ap (λ x. g.R.Rule.fails r (with_caller caller x)) (sym same) ∙ can),
+          (ap (λ x. g.R.Rule.fails r (with_caller caller x)) (sym same) ∙ can),
     )
 
 pub returns : goal.returns
