@@ -1,5 +1,5 @@
 -- What a hall's settings are made into.
-use Rattle.std.specs.Prelude.{◌≡◌, ℕ, true, ◌⊎◌, take, is_some, Some, None, vec_items, Option}
+use Rattle.std.specs.Prelude.{◌≡◌, ℕ, true, ◌⊎◌, is_some, Some, None, vec_items, Option}
 use Rattle.rules.specs.Count.{CountMade}
 use Rattle.rules.specs.Group.{GroupMade}
 use Rattle.rules.specs.declared.count.CountRule.{CountRule}
@@ -34,7 +34,7 @@ abbrev pub RuleOf : Request → Either CountRule GroupRule → Type 0
 RuleOf (Count n t) (First q) = (q.n ≡ n) × (q.t ≡ t)
 RuleOf (Count n t) (Second q) = ⊥
 RuleOf (Group n ms) (First q) = ⊥
-RuleOf (Group n ms) (Second q) = (q.n ≡ n) × (take q.count q.masks ≡ vec_items ms)
+RuleOf (Group n ms) (Second q) = (q.n ≡ n) × (q.masks.items ≡ vec_items ms)
 
 -- p is the patch of the number, where there is one
 abbrev pub PatchOf : Option ℕ → Option Patch → Type 0

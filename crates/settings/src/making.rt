@@ -1,5 +1,5 @@
 // The rig, the rule and the rest word of a hall, made from its settings.
-ghost use Rattle.std.specs.Prelude.{◌≡◌, ℕ, take, IfOk, Some, None, MatchResult};
+ghost use Rattle.std.specs.Prelude.{◌≡◌, ℕ, IfOk, Some, None, MatchResult};
 ghost use Rattle.refusals.specs.declared.Refusal.TheVariants.{NoWord as is_no_word, UnlawfulRule as is_unlawful, DigitTwice as is_twice};
 ghost use Rattle.rules.specs.Group.{GroupMade};
 ghost use Rattle.planner.specs.declared.plan.Request.TheVariants.{Count as asks_count};
@@ -94,7 +94,7 @@ pub fn word_of<K: WordKind>(code: u16) -> Result<K, Refusal>
 
 // The group rule of n stations and these masks, refused where there is none.
 fn group_rule(n: u16, masks: &[u16]) -> Result<GroupRule, Refusal>
-    ensures { MatchResult result (λ q. (q.n ≡ n) × (take q.count q.masks ≡ masks.now)) (λ e. (e ≡ is_unlawful) × (GroupMade n masks.now → ⊥)) }
+    ensures { MatchResult result (λ q. (q.n ≡ n) × (q.masks.items ≡ masks.now)) (λ e. (e ≡ is_unlawful) × (GroupMade n masks.now → ⊥)) }
 {
     let mut rule = GroupRule::new();
     match rule.make(n, masks) {
