@@ -69,29 +69,26 @@ pub enum Refusal {
 }
 
 impl Refusal {
-    // The number that stands for the case on a line.
+    // The number that stands for the case on a line. A method: u8::from of a refusal would not say which number it is.
     pub fn number(self) -> u8
         ensures { result ≡ number_of self }
     {
         match self {
             Refusal::NoSuchStation => 1,
-            Refusal::NotIdle => 2,
-            Refusal::NotRunning => 2,
-            Refusal::Idle => 2,
-            Refusal::NotDecided => 2,
-            Refusal::NotMade => 2,
-            Refusal::AlreadyMade => 2,
+            Refusal::NotIdle
+            | Refusal::NotRunning
+            | Refusal::Idle
+            | Refusal::NotDecided
+            | Refusal::NotMade
+            | Refusal::AlreadyMade => 2,
             Refusal::TooManyBroken => 3,
-            Refusal::SheetTooShort => 4,
-            Refusal::BufferTooShort => 4,
+            Refusal::SheetTooShort | Refusal::BufferTooShort => 4,
             Refusal::UnlawfulRule => 5,
             Refusal::HoldsVoid => 6,
             Refusal::DigitTwice => 7,
             Refusal::BrokenLayout => 8,
             Refusal::UnknownAddress => 9,
-            Refusal::WrongTags => 10,
-            Refusal::TakeOutOfRange => 10,
-            Refusal::OddScript => 10,
+            Refusal::WrongTags | Refusal::TakeOutOfRange | Refusal::OddScript => 10,
             Refusal::NoWord => 11,
         }
     }

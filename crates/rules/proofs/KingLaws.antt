@@ -30,6 +30,18 @@ first-none n c = mask_is n 0 (λ s. not (eqb s c) && ltb (others_below c s) 0) (
     no_one b m = grind (arith, nat_tests)
 
 -- how many others there are below a station
+pub others-none : (c : ℕ) → others_below c 0 ≡ 0
+unfolding others_below
+others-none c = grind (arith, nat_tests)
+
+pub others_skip : (c i : ℕ) → i ≡ c → others_below c i ≡ others_below c (i + 1)
+unfolding others_below
+others_skip c i e = grind (arith, nat_tests)
+
+pub others_join : (c i : ℕ) → (i ≡ c → ⊥) → others_below c i + 1 ≡ others_below c (i + 1)
+unfolding others_below
+others_join c i d = grind (arith, nat_tests)
+
 pub others-few : (c i n : ℕ) → i ≤ n → c < n → others_below c i < n
 unfolding others_below
 others-few c i n l h = grind (arith, nat_tests)
@@ -106,13 +118,20 @@ module _ (n : ℕ) (fails : ℕ → Bool) (sized : Sized n) (apart : Apart n fai
       let all = with_caller c (first_others n c (others_below c n)) in
       ⊎_elim (λ t. absurd (apart all all t t (all_whole n c sized.1 h))) (λ f. f) (cases_Bool (fails all))
 
-  -- while caller and kings can fail, there is one more king to come
-  pub goes_on : (k set : ℕ) → k < n → set ≡ first_others n c k → fails (with_caller c set) ≡ true → k + 1 < n
-  goes_on k set l q t =
+  -- while caller and kings can fail, there is a station to come
+  pub goes_on : (i k set : ℕ) → i ≤ n → k ≡ others_below c i → set ≡ first_others n c k → fails (with_caller c set) ≡ true → i < n
+  goes_on i k set l e q t =
+      ⊎_elim (λ (m : i < n). m)
+      (λ (m : n ≤ i).
+      let z : i ≡ n = omega arith in
+      absurd (both_ways (fails (with_caller c set)) (ap (λ x. fails (with_caller c x)) (q ∙ ap (first_others n c) (e ∙ ap (others_below c) z)) ∙ all_cannot) t))
+      (cases_lt i n)
+
+  -- and so one more king
+  pub one_more : (k set : ℕ) → k < n → set ≡ first_others n c k → fails (with_caller c set) ≡ true → k + 1 < n
+  one_more k set l q t =
       ⊎_elim (λ (m : k + 1 < n). m)
-      (λ (m : n ≤ k + 1).
-      let z : k ≡ others_below c n = omega (arith, others-all c n h) in
-      absurd (both_ways (fails (with_caller c set)) (ap (λ x. fails (with_caller c x)) (q ∙ ap (first_others n c) z) ∙ all_cannot) t))
+      (λ (m : n ≤ k + 1). absurd (omega (arith, goes_on n k set (omega arith) (omega (arith, others-all c n h)) q t)))
       (cases_lt (k + 1) n)
 
   -- with king number k + 1 they are the first k + 1 kings

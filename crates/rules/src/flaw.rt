@@ -25,13 +25,13 @@ pub enum Flaw {
     #[error("there are 16 groups at most")]
     ManyMasks,
     // a mask with a station that the rule does not have
-    #[error("{} has a station that is not in the hall", Listed { set: *.mask })]
+    #[error("{} has a station that is not in the hall", Listed {set: *.mask})]
     Stranger { mask: u16 },
     // a mask that a single station makes up all stations with
-    #[error("{} and one more station would make up all stations", Listed { set: *.mask })]
+    #[error("{} and one more station would make up all stations", Listed {set: *.mask})]
     OneMissing { mask: u16 },
     // two masks that make up all stations, or one that has them all
-    #[error("{} and {} would make up all stations", Listed { set: *.a }, Listed { set: *.b })]
+    #[error("{} and {} would make up all stations", Listed {set: *.a}, Listed {set: *.b})]
     Together { a: u16, b: u16 },
 }
 

@@ -10,7 +10,7 @@ ghost use Rattle.std.proofs.Common.{rules, arith};
 
 use crate::Rule;
 use crate::flaw::Flaw;
-use crate::making::{masks_flaw, station_count};
+use crate::making::{Masks, station_count};
 use arrayvec::ArrayVec;
 use refusals::Refusal;
 use sets::{among, size, within};
@@ -41,13 +41,16 @@ impl GroupRule {
     fn lawful(n: u16, masks: &[u16]) -> Result<GroupRule, Flaw>
         ensures { MatchResult result (λ q. GroupMade n masks.now × (q.n ≡ n) × (q.masks.items ≡ masks.now)) (λ f. GroupFlaw n masks.now f × (GroupMade n masks.now → ⊥)) }
     {
-        let stations = station_count(n)?;
+        let asked = Masks {
+            n: station_count(n)?,
+            masks,
+        };
         let kept = ArrayVec::try_from(masks).map_err(|_| Flaw::ManyMasks)?;
-        if let Some(flaw) = masks_flaw(stations, masks) {
+        if let Some(flaw) = asked.flaw() {
             return Err(flaw);
         }
         Ok(GroupRule {
-            n: stations,
+            n: asked.n,
             masks: kept,
         })
     }

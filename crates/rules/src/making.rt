@@ -28,31 +28,42 @@ fn leaves_two(n: u8, mask: u16) -> bool
     u16::from(size(mask)) + 1 < u16::from(n)
 }
 
-// The first of the masks that makes up all n with the set.
-fn completing(n: u8, masks: &[u16], set: u16) -> Option<u16>
-    ensures { MatchOption result (NoneCompletes n masks.now set) (λ m. OneOf m masks.now × Whole n m set) }
-{
-    masks.iter().copied().find(|m| make_up(n, *m, set))
+// The masks that are asked for, and how many stations the rule has.
+#[derive(Clone, Copy)]
+pub(crate) struct Masks<'a> {
+    pub(crate) n: u8,
+    pub(crate) masks: &'a [u16],
+    ghost sized: { Sized n },
 }
 
-// What is wrong with one of the masks.
-fn mask_flaw(n: u8, masks: &[u16], mask: u16) -> Option<Flaw>
-    requires { Sized n }
-    ensures { MatchOption result (Sound n masks.now mask) (λ f. OneOf mask masks.now → Flawed n masks.now f) }
-{
-    if !among(mask, n) {
-        return Some(Flaw::Stranger { mask });
+impl Masks<'_> {
+    // The first of the masks that makes up all stations with the set.
+    fn completing(&self, set: u16) -> Option<u16>
+        ensures { MatchOption result (NoneCompletes self.now.n self.now.masks.now set) (λ m. OneOf m self.now.masks.now × Whole self.now.n m set) }
+    {
+        self.masks
+            .iter()
+            .copied()
+            .find(|m| make_up(self.n, *m, set))
     }
-    if !leaves_two(n, mask) {
-        return Some(Flaw::OneMissing { mask });
-    }
-    completing(n, masks, mask).map(|a| Flaw::Together { a, b: mask })
-}
 
-// What is wrong with the first mask that is not right.
-pub(crate) fn masks_flaw(n: u8, masks: &[u16]) -> Option<Flaw>
-    requires { Sized n }
-    ensures { MatchOption result (MasksMade n masks.now) (Flawed n masks.now) }
-{
-    masks.iter().find_map(|m| mask_flaw(n, masks, *m))
+    // What is wrong with one of the masks.
+    fn mask_flaw(&self, mask: u16) -> Option<Flaw>
+        ensures { MatchOption result (Sound self.now.n self.now.masks.now mask) (λ f. OneOf mask self.now.masks.now → Flawed self.now.n self.now.masks.now f) }
+    {
+        if !among(mask, self.n) {
+            return Some(Flaw::Stranger { mask });
+        }
+        if !leaves_two(self.n, mask) {
+            return Some(Flaw::OneMissing { mask });
+        }
+        self.completing(mask).map(|a| Flaw::Together { a, b: mask })
+    }
+
+    // What is wrong with the first mask that is not right.
+    pub(crate) fn flaw(&self) -> Option<Flaw>
+        ensures { MatchOption result (MasksMade self.now.n self.now.masks.now) (Flawed self.now.n self.now.masks.now) }
+    {
+        self.masks.iter().find_map(|m| self.mask_flaw(*m))
+    }
 }

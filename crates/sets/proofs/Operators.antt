@@ -6,7 +6,7 @@ use Rattle.std.proofs.lemmas.Nat.{or_lt, pow_below}
 use Rattle.std.proofs.lemmas.Bool.{ltb-true, le-ltb, lt-ltb, lt-leb, le-leb}
 use Rattle.sets.specs.Sets.{has, mask_of, count_of, inside, whole, among}
 use Rattle.sets.proofs.Masks.{mask_is, mask_of-lt, has_and, has_or, has-high, has-mask_of}
-use Rattle.sets.proofs.Bounds.{has_bit, has_flipped, has-ones, lt-among}
+use Rattle.sets.proofs.Bounds.{has_bit, has_flipped, has-low_bits, lt-among}
 use Rattle.sets.proofs.Counts.{ones-count}
 use Rattle.sets.proofs.Tests.{and_inside, whole-inside, whole-over}
 
@@ -41,15 +41,18 @@ and_not f a la =
     mask_is 16 (bit_and (mask_of 16 f) (65535 - a)) (λ j. f j && not (has a j)) (and_lt 16 (mask_of 16 f) (65535 - a) (mask_of-lt 16 f) (omega arith))
     (λ j l. has_and (mask_of 16 f) (65535 - a) j ∙ ap₂ (λ x y. x && y) (has-mask_of 16 f j l) (has_flipped a j la l))
 
--- the lowest n bits
+-- the lowest n bits, and all sixteen where n is 16 or more
 pub low_bits : (n : ℕ) → n < 16 → 1 * 2 ^ n % 65536 - 1 ≡ mask_of 16 (λ j. ltb j n)
 low_bits n l =
     let up : 2 ^ n < 2 ^ 16 = pow_below n 16 l in
     let e : 1 * 2 ^ n % 65536 ≡ 2 ^ n = mod-eq_of_lt (omega arith) ∙ omega arith in
-    ap (λ x. x - 1) e ∙ mask_is 16 (2 ^ n - 1) (λ j. ltb j n) (omega arith) (λ j _. has-ones n j)
+    ap (λ x. x - 1) e ∙ mask_is 16 (2 ^ n - 1) (λ j. ltb j n) (omega arith)
+    (λ j h. ap (λ b. has (cond b (2 ^ n - 1) 65535) j) (sym (lt-ltb n 16 l)) ∙ has-low_bits n j h)
 
 pub all_bits : (n : ℕ) → 16 ≤ n → 65535 ≡ mask_of 16 (λ j. ltb j n)
-all_bits n l = mask_is 16 65535 (λ j. ltb j n) (omega arith) (λ j h. has-ones 16 j ∙ lt-ltb j 16 h ∙ sym (lt-ltb j n (omega arith)))
+all_bits n l =
+    mask_is 16 65535 (λ j. ltb j n) (omega arith)
+    (λ j h. ap (λ b. has (cond b (2 ^ n - 1) 65535) j) (sym (le-ltb n 16 l)) ∙ has-low_bits n j h)
 
 pub ones_is : (a : ℕ) → a < 2 ^ 16 → ones a ≡ count_of 16 (has a)
 ones_is a la = ones-count 16 a la

@@ -1,5 +1,5 @@
 -- What a hall's settings are made into.
-use Rattle.std.specs.Prelude.{◌≡◌, ℕ, true, ◌⊎◌, take, is_some, Some, None, vec_items, List, Option}
+use Rattle.std.specs.Prelude.{◌≡◌, ℕ, true, ◌⊎◌, is_some, Some, None, vec_items, List, Option}
 use Rattle.rules.specs.Count.{CountMade}
 use Rattle.rules.specs.Group.{GroupMade}
 use Rattle.rules.specs.declared.count.CountRule.{CountRule}
@@ -41,7 +41,7 @@ CountOf n t (Second q) = ⊥
 -- the rule q is the group rule of n stations and these masks
 abbrev pub GroupOf : ℕ → List ℕ → Either CountRule GroupRule → Type 0
 GroupOf n masks (First q) = ⊥
-GroupOf n masks (Second q) = (q.n ≡ n) × (take q.count q.masks ≡ masks)
+GroupOf n masks (Second q) = (q.n ≡ n) × (q.masks.items ≡ masks)
 
 -- the rule q is the one that is asked for
 abbrev pub RuleOf : Request → Either CountRule GroupRule → Type 0

@@ -2,7 +2,7 @@ use Rattle.std.proofs.Common.{◌≡◌, ℕ, ◌+◌, ◌<◌, true, false, sym
 use Rattle.std.proofs.lemmas.Bool.{not-true, not-false}
 use Rattle.rules.specs.declared.king.Kings.{Kings}
 use Rattle.rules.specs.Kings.{first_others, with_caller, king_count, KingFacts}
-use Rattle.rules.proofs.KingLaws.{first-none, goes_on, king_joins, count-is, facts}
+use Rattle.rules.proofs.KingLaws.{first-none, one_more, king_joins, count-is, facts}
 use Rattle.rules.proofs.king.first_kings.Goals as goal
 
 pub loop-count-init : goal.loop-count-init
@@ -17,11 +17,11 @@ loop-count-preserved g c =
     let k = c.loop-count.count in
     let same = c.loop-count.invariant.1 in
     let can : g.R.Rule.fails r (with_caller caller c.loop-count.set) ≡ true = not-false _ (sym c.if-cannot_fail.ensures) in
-    let more : k + 1 < n = goes_on n (g.R.Rule.fails r) (met.sized r) (met.apart r) caller c.requires k c.loop-count.set c.loop-count.invariant.0 same can in (
+    let more : k + 1 < n = one_more n (g.R.Rule.fails r) (met.sized r) (met.apart r) caller c.requires k c.loop-count.set c.loop-count.invariant.0 same can in (
       more,
       c.with-set.ensures ∙ king_joins n (g.R.Rule.fails r) (met.sized r) (met.apart r) caller c.requires k c.loop-count.set c.king_number.result more same c.king_number.ensures,
       below_more (λ j. g.R.Rule.fails r (with_caller caller (first_others n caller j)) ≡ true) k c.loop-count.invariant.2
-        (ap (λ x. g.R.Rule.fails r (with_caller caller x)) (sym same) ∙ can),
+          (ap (λ x. g.R.Rule.fails r (with_caller caller x)) (sym same) ∙ can),
     )
 
 pub returns : goal.returns

@@ -8,7 +8,7 @@ use Rattle.sets.specs.Sets.{whole, Whole}
 use Rattle.sets.proofs.Tests.{whole-decides}
 use Rattle.rules.specs.Flaws.{OneOf}
 use Rattle.rules.specs.Making.{NoneCompletes}
-use Rattle.rules.proofs.making.completing.Goals as goal
+use Rattle.rules.proofs.making.Masks.completing.Goals as goal
 
 module _ (n : ℕ) (ms : List ℕ) (s : ℕ) where
   abbrev Yes : ℕ → Type 0
@@ -24,7 +24,8 @@ module _ (n : ℕ) (ms : List ℕ) (s : ℕ) where
 
 pub returns : goal.returns
 returns c =
-    let n = c.args.n in
+    let n = c.args.self.now.n in
+    let ms = c.args.self.now.masks.now in
     let s = c.args.set in
-    found n c.args.masks.now s c.find.result (first_from_find _ _ c.find.result (Yes n c.args.masks.now s) (No n c.args.masks.now s) c.find.ensures.ran
-    (YieldsList-from_copied (YieldsList-from_slice c.args.masks.now cc)) (λ m q k. search (rules, tests)) (λ m q k. search (rules, tests)))
+    found n ms s c.find.result (first_from_find _ _ c.find.result (Yes n ms s) (No n ms s) c.find.ensures.ran
+    (YieldsList-from_copied (YieldsList-from_slice ms cc)) (λ m q k. search (rules, tests)) (λ m q k. search (rules, tests)))

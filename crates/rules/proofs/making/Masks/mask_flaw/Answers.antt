@@ -10,7 +10,7 @@ use Rattle.rules.specs.Rules.{Sized}
 use Rattle.rules.specs.Flaws.{OneOf}
 use Rattle.rules.specs.Making.{NoneCompletes, Sound, Flawed}
 use Rattle.rules.specs.GroupLaws.{not_stranger, not_one_missing, not-together}
-use Rattle.rules.proofs.making.mask_flaw.Goals as goal
+use Rattle.rules.proofs.making.Masks.mask_flaw.Goals as goal
 
 together : (n : ℕ) (ms : List ℕ) (m : ℕ) → Sized n → (o : Option ℕ) (r : Option Flaw)
     → MatchOption o (NoneCompletes n ms m) (λ a. OneOf a ms × Whole n a m) → MatchOption o (r ≡ None) (λ a. IsSomeAnd r (λ f. f ≡ Together a m))
@@ -21,15 +21,18 @@ together n ms m sized (Some a) (Some f) h e l s = λ o. subst (Flawed n ms) (sym
 
 pub returns-then-not-among : goal.returns-then-not-among
 returns-then-not-among c = λ o.
-    let l : 2 ^ c.args.n ≤ c.args.mask = among-over c.args.n c.args.mask (sym c.if-not-among.ensures) in
-    ((o, l), λ m. not_stranger c.args.n c.requires.1 c.args.masks.now m.0 m.1 c.args.mask o l)
+    let q = c.args.self.now in
+    let l : 2 ^ q.n ≤ c.args.mask = among-over q.n c.args.mask (sym c.if-not-among.ensures) in
+    ((o, l), λ m. not_stranger q.n q.sized.1 q.masks.now m.0 m.1 c.args.mask o l)
 
 pub returns-then-not-leaves_two : goal.returns-then-not-leaves_two
 returns-then-not-leaves_two c = λ o.
-    let l : c.args.n ≤ members c.args.mask + 1 = ltb-false _ _ (sym c.if-not-leaves_two.ensures) in
-    ((o, l), λ m. not_one_missing c.args.n c.requires.1 c.args.masks.now m.0 m.1 c.args.mask o l)
+    let q = c.args.self.now in
+    let l : q.n ≤ members c.args.mask + 1 = ltb-false _ _ (sym c.if-not-leaves_two.ensures) in
+    ((o, l), λ m. not_one_missing q.n q.sized.1 q.masks.now m.0 m.1 c.args.mask o l)
 
 pub returns : goal.returns
 returns c =
-    together c.args.n c.args.masks.now c.args.mask c.requires c.completing.result c.map.result c.completing.ensures (search rules)
-    (among-lt c.args.n c.args.mask (sym c.if-not-among.ensures)) (ltb-true _ _ (sym c.if-not-leaves_two.ensures))
+    let q = c.args.self.now in
+    together q.n q.masks.now c.args.mask q.sized c.completing.result c.map.result c.completing.ensures (search rules)
+    (among-lt q.n c.args.mask (sym c.if-not-among.ensures)) (ltb-true _ _ (sym c.if-not-leaves_two.ensures))

@@ -8,7 +8,7 @@ use Rattle.rules.specs.Rules.{Sized}
 use Rattle.rules.specs.Flaws.{OneOf}
 use Rattle.rules.specs.Making.{Sound, MasksMade, Flawed}
 use Rattle.rules.specs.GroupLaws.{sound_below, sound_apart}
-use Rattle.rules.proofs.making.masks_flaw.Goals as goal
+use Rattle.rules.proofs.making.Masks.flaw.Goals as goal
 
 -- the item at a place of a run over the masks
 item : (o : Option (Bor ℕ)) (m : ℕ) (P : Bor ℕ → Type 0) → option_map (λ y. y.now) o ≡ Some m → IfSome o P → (x : Bor ℕ) × (x.now ≡ m) × P x
@@ -36,6 +36,7 @@ module _ {S F : Type 0} {steps : S → Option (Bor ℕ) → S → Type 0} (g : M
 
 pub returns : goal.returns
 returns c =
+    let q = c.args.self.now in
     let r = c.find_map.ensures.runs in
     let items = subst (ItemsMapTo r.0 (λ y. y.now)) (ap iter_rest r.1 ∙ c.iter.ensures.rest) (c.iter.ensures.runs r.0 r.0.seen) in
-    found _ _ c.args.n c.args.masks.now c.requires r.0 items (λ x o f k. search rules) (λ x o k. search rules) c.find_map.result r.2
+    found _ _ q.n q.masks.now q.sized r.0 items (λ x o f k. search rules) (λ x o k. search rules) c.find_map.result r.2
