@@ -40,7 +40,7 @@ fn text_size(s: &[u8]) -> Option<usize>
 }
 
 // The most bytes that a blob has: as many as an int32 can say.
-const MAX_BLOB: usize = 0x7fff_ffff;
+const MAX_BLOB: usize = i32::MAX as usize;
 
 // How many bytes a blob takes.
 fn blob_size(b: &[u8]) -> Option<usize>
