@@ -135,6 +135,7 @@ fn message_line(heap: Global, message: Message<'_>) -> Result<String, AllocError
 fn refusal_line(heap: Global, refusal: Refusal) -> Result<String, AllocError>
     ensures { IfOk result (λ s. (words : List ℕ) × (string_bytes s ≡ (codes "refused " ++ (decimal (number_of refusal) ++ codes ": ")) ++ words)) }
 {
+    // In two steps: nothing is known of what a refusal prints, so one `format!` would tell nothing.
     let n = refusal.number();
     let mut line = format!(in heap; "refused {n}: ")?;
     let words = refusal.to_string(heap)?;

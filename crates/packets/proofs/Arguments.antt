@@ -1,9 +1,9 @@
 -- Arguments one behind another: their bytes say them, given their type tags. Assumes nothing.
-use Rattle.std.proofs.Common.{◌≡◌, ℕ, Bool, true, false, eqb, List, [], ◌∷◌, map, length, get_or, drop, ℤ, Some, None, MatchBool, Option, is_some, not, sym, refl, ap, ◌∙◌, subst, arith, MatchOption}
+use Rattle.std.proofs.Common.{◌≡◌, ℕ, Bool, true, false, eqb, List, [], ◌∷◌, map, length, get_or, drop, Some, None, MatchBool, Option, is_some, not, sym, refl, ap, ◌∙◌, subst, arith, MatchOption}
 use Rattle.std.proofs.lemmas.List.{nil_from_length}
 use Rattle.std.specs.Bool.{then_some}
 use Rattle.std.proofs.lemmas.Bool.{false≢true, eqb-true, eqb-false}
-use Rattle.packets.specs.Osc.{Value, number, text, blob, tag, NumberOf, TextOf, Field, Fields}
+use Rattle.packets.specs.Osc.{Value, number, text, blob, tag, TextOf, Field, Fields}
 use Rattle.packets.specs.Read.{Holds}
 use Rattle.packets.proofs.Numbers.{number_same}
 use Rattle.packets.proofs.Texts.{text_same, blob-same}
@@ -24,11 +24,6 @@ none_test P Q (Some x) true e h = absurd (false≢true (sym e))
 none_test P Q (Some x) false e h = (x, h)
 none_test P Q None true e h = h
 none_test P Q None false e h = absurd (false≢true e)
-
-pub no_number : (bs : List ℕ) → ((z : ℤ) (rest : List ℕ) → NumberOf z bs rest → ⊥) → (v : Value) (rest : List ℕ) → tag v ≡ 105 → Field v bs rest → ⊥
-no_number bs h (number z) rest e f = h z rest f
-no_number bs h (text s) rest e f = omega arith
-no_number bs h (blob b) rest e f = omega arith
 
 pub no_text : (bs : List ℕ) → ((s rest : List ℕ) → TextOf s bs rest → ⊥) → (v : Value) (rest : List ℕ) → tag v ≡ 115 → Field v bs rest → ⊥
 no_text bs h (number z) rest e f = omega arith

@@ -82,7 +82,3 @@ encode-encodes m slash plain good short = record {
   arguments = fields-encode m.arguments good;
   short = short;
 }
-
-pub body-short : (m : Content) (bs : List ℕ) (l : Encoding m bs) → length l.body ≤ 4096
-body-short m bs l =
-    omega (arith, field_length (text m.address) bs l.behind l.address, field_length (text (44 ∷ map tag m.arguments)) l.behind l.body l.tags, l.short)

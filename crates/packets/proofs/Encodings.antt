@@ -1,13 +1,12 @@
 -- A packet has at most one meaning, and is a multiple of 4 bytes long. Assumes nothing.
-use Rattle.std.proofs.Common.{◌≡◌, ℕ, zero, suc, ◌+◌, ◌%◌, ◌<◌, ◌≤◌, List, [], ◌∷◌, ◌++◌, map, length, get_or, drop, Ok, Err, sym, refl, ap, ◌∙◌, subst, add-one, arith}
+use Rattle.std.proofs.Common.{◌≡◌, ℕ, zero, suc, ◌+◌, ◌%◌, ◌<◌, ◌≤◌, List, [], ◌∷◌, map, length, get_or, drop, Ok, Err, sym, refl, ap, ◌∙◌, subst, add-one, arith}
 use Rattle.std.specs.List.{between}
-use Rattle.std.proofs.lemmas.List.{get_or_append_left}
 use Rattle.std.proofs.lemmas.Slice.{first_rest}
 use Rattle.packets.specs.Osc.{Value, number, text, blob, tag, TextByte, Plain, Filled, TextOf, Field, Fields, Content, Encoding}
 use Rattle.packets.specs.Read.{Begins, Ends, Holds, Left}
 use Rattle.packets.specs.Write.{ReadsAs}
 use Rattle.packets.proofs.Cuts.{filled_cut}
-use Rattle.packets.proofs.Texts.{text_same, text-ends, text-split}
+use Rattle.packets.proofs.Texts.{text_same, text-split}
 use Rattle.packets.proofs.Arguments.{holds_same}
 
 -- a byte that may stand in a string, in front of others
@@ -54,17 +53,6 @@ encoding-parts m {bs} {address} {behind} {list} {fields} a b l =
 
 pub encoding-behind : (m : Content) {bs address behind : List ℕ} → TextOf address bs behind → (l : Encoding m bs) → TextOf (44 ∷ map tag m.arguments) behind l.body
 encoding-behind m a l = subst (λ r. TextOf (44 ∷ map tag m.arguments) r l.body) (text_same l.address a).1 l.tags
-
-pub some_first : (xs : List ℕ) → get_or xs 0 0 ≡ 47 → 0 < length xs
-some_first [] e = absurd (omega arith)
-some_first (x ∷ xs) e = omega arith
-
-pub encoding-slash : (m : Content) (bs : List ℕ) → Encoding m bs → Begins 47 bs
-encoding-slash m bs l =
-    let t = l.address in
-    let some = some_first m.address l.slash in
-    let w = (text-ends t).within in
-    record { first = ap (λ x. get_or x 0 0) (text-split t) ∙ get_or_append_left m.address (0 ∷ (t.filled.fill ++ l.behind)) 0 0 some ∙ l.slash; some = omega arith }
 
 pub encoding_comma : (m : Content) {bs address behind list fields : List ℕ} → TextOf address bs behind → TextOf list behind fields → Encoding m bs → Begins 44 list
 encoding_comma m a b l =

@@ -1,5 +1,5 @@
 -- One write behind another. Assumes nothing.
-use Rattle.std.proofs.Common.{◌≡◌, ℕ, zero, suc, ◌+◌, ◌<◌, ◌≤◌, List, [], ◌∷◌, ◌++◌, map, length, get_or, take, drop, replicate, sym, refl, ap, ◌∙◌, add-zero, zero-add, one-add, arith}
+use Rattle.std.proofs.Common.{◌≡◌, ℕ, zero, suc, ◌+◌, ◌<◌, ◌≤◌, List, [], ◌∷◌, ◌++◌, map, length, get_or, take, drop, replicate, sym, ap, ◌∙◌, add-zero, zero-add, one-add, arith}
 use borrow.Rule.Slice.PartMut.{put_mid}
 use Rattle.std.proofs.lemmas.List.{length-append, length-take, length-take-le, length-drop, length-replicate, take-append-drop, drop-drop, take_at, drop_at, append_assoc, take_more, flat_map_more, length-map, length_push}
 use Rattle.std.specs.List.{flat_map}
@@ -30,14 +30,6 @@ over-over xs at a b room =
 -- two writes, the second where the first ended
 pub two_puts : (xs ys zs : List ℕ) (at end : ℕ) (a b : List ℕ) → ys ≡ over xs at a → end ≡ at + length a → zs ≡ over ys end b → at + length a + length b ≤ length xs → zs ≡ over xs at (a ++ b)
 two_puts xs ys zs at end a b e f g room = g ∙ (λ i. over (e i) (f i) b) ∙ over-over xs at a b room
-
-pub zeros_is : (n : ℕ) → n ≤ 4 → take {A = ℕ} n (0 ∷ 0 ∷ 0 ∷ 0 ∷ []) ≡ replicate n 0
-zeros_is zero h = refl
-zeros_is (suc zero) h = refl
-zeros_is (suc (suc zero)) h = refl
-zeros_is (suc (suc (suc zero))) h = refl
-zeros_is (suc (suc (suc (suc zero)))) h = refl
-zeros_is (suc (suc (suc (suc (suc n))))) h = absurd (omega arith)
 
 pub length-filled : (part : List ℕ) → length (filled_bytes part) ≡ length part + fill_len (length part)
 unfolding filled_bytes

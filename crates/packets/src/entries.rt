@@ -1,4 +1,5 @@
-// The list that a message is written from, and how many bytes it takes.
+// The list that a message is written from, and how many bytes it takes. The list and the lent
+// bytes are no struct: `write_message` has them apart, and would make it only to call these.
 ghost use Rattle.std.specs.Prelude.{◌≡◌, ℕ, ◌+◌, ◌^◌, ◌<◌, ◌≤◌, List, ◌∷◌, map, length, MatchOption};
 ghost use Rattle.std.specs.List.{between, flat_map, AllByRecursion};
 ghost use Rattle.packets.specs.Osc.{Plain, Field, Fields, Encoding};
@@ -40,7 +41,7 @@ fn text_size(s: &[u8]) -> Option<usize>
 }
 
 // The most bytes that a blob has: as many as an int32 can say.
-const MAX_BLOB: usize = 0x7fff_ffff;
+const MAX_BLOB: usize = i32::MAX as usize;
 
 // How many bytes a blob takes.
 fn blob_size(b: &[u8]) -> Option<usize>

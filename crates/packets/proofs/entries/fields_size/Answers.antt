@@ -1,9 +1,9 @@
-use Rattle.std.proofs.Common.{◌+◌, length, take, pos, ap, ◌∙◌, subst, arith}
-use Rattle.std.specs.List.{flat_map, AllByRecursion}
-use Rattle.std.proofs.lemmas.List.{take_all, length-append}
-use Rattle.std.proofs.ByRecursion.{All-get_or, All-more}
+use Rattle.std.proofs.Common.{◌+◌, length, take, pos, ap, ◌∙◌, arith}
+use Rattle.std.specs.List.{flat_map}
+use Rattle.std.proofs.lemmas.List.{length-append}
+use Rattle.std.proofs.ByRecursion.{All-get_or}
 use Rattle.packets.specs.declared.fields.Argument.TheVariants.{Number}
-use Rattle.packets.specs.Write.{entry_bytes, entry_value, Inside, Sendable}
+use Rattle.packets.specs.Write.{entry_bytes, entry_value, Inside}
 use Rattle.packets.proofs.Puts.{put-more, joined_le, joined_snoc}
 use Rattle.packets.proofs.Encoded.{fields-length}
 use Rattle.packets.proofs.Lists.{fields_at, joined-map}
@@ -26,15 +26,3 @@ returns-in_err-total c =
     let got = c.in_ok-size.ensures in
     let all = fields-length _ bs h ∙ ap length (joined-map c.args.lent.now c.args.entries.now) in
     omega (arith, c.loop-e.invariant.0, c.in_err-total.ensures))
-
-pub loop-e-preserved : goal.loop-e-preserved
-loop-e-preserved c =
-    let f = entry_bytes c.args.lent.now in
-    let more = ap length (put-more (flat_map f) f (joined_snoc f) c.args.entries.now c.loop-e.e-index (Number (pos 0)) c.loop-e-test.true) ∙ length-append (flat_map f (take c.loop-e.e-index c.args.entries.now)) _ in
-    let got = c.in_ok-size.ensures in
-    (omega (arith, c.loop-e.invariant.0, c.in_ok-total.ensures), All-more (Sendable c.args.lent.now) c.args.entries.now c.loop-e.e-index (Number (pos 0)) c.loop-e-test.true c.loop-e.invariant.1 (got.0, got.2))
-
-pub returns : goal.returns
-returns c =
-    let all = take_all c.loop-e.e-index c.args.entries.now (omega arith) in
-    (subst (AllByRecursion (Sendable c.args.lent.now)) all c.loop-e.invariant.1, c.loop-e.invariant.0 ∙ ap (λ x. length (flat_map (entry_bytes c.args.lent.now) x)) all)

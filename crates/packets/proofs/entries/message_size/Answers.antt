@@ -1,26 +1,10 @@
-use Rattle.std.proofs.Common.{◌∷◌, map, arith}
+use Rattle.std.proofs.Common.{arith}
 use Rattle.std.proofs.ByRecursion.{All-weaker, All-map}
-use Rattle.std.proofs.lemmas.List.{length-map}
-use Rattle.packets.specs.Write.{letter_of, entry_value, Inside, Encodable, Sendable, content_of}
-use Rattle.packets.proofs.Puts.{length-text}
+use Rattle.packets.specs.Write.{entry_value, Inside, Encodable, Sendable, content_of}
 use Rattle.packets.proofs.Arguments.{some_weaker}
-use Rattle.packets.proofs.Encodings.{some_first}
-use Rattle.packets.proofs.Encoded.{body-short, encode-encodes}
+use Rattle.packets.proofs.Encoded.{encode-encodes}
 use Rattle.packets.proofs.Lists.{encode-length, too_long}
 use Rattle.packets.proofs.entries.message_size.Goals as goal
-
-pub returns-in_err-behind_byte : goal.returns-in_err-behind_byte
-returns-in_err-behind_byte c =
-    rw c.from_residual.ensures (λ placed bs l. c.in_err-behind_byte.ensures (record { first = l.slash; some = some_first c.args.address.now l.slash }))
-
-pub returns-in_err-tags : goal.returns-in_err-tags
-returns-in_err-tags c =
-    let n = encode-length c.args.address.now c.args.lent.now c.args.entries.now in
-    let t = length-text (44 ∷ map letter_of c.args.entries.now) in
-    rw c.from_residual-in_err-tags.ensures (too_long _ _ _ (omega (arith, c.in_err-tags.ensures, length-map c.args.entries.now letter_of)))
-
-pub returns-in_err-fields : goal.returns-in_err-fields
-returns-in_err-fields c = rw c.from_residual-in_err-fields.ensures (λ placed bs l. c.in_err-fields.ensures placed l.body l.arguments (body-short _ bs l))
 
 pub returns-in_err-within_packet : goal.returns-in_err-within_packet
 returns-in_err-within_packet c =

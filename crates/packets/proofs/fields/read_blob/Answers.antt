@@ -1,4 +1,4 @@
-use Rattle.std.proofs.Common.{◌≡◌, length, pos, nat_abs, sym, ap, ◌∙◌, w32}
+use Rattle.std.proofs.Common.{◌≡◌, pos, nat_abs, sym, ap, ◌∙◌, w32}
 use Rattle.std.proofs.lemmas.Int.{to_z-of_z}
 use Rattle.packets.proofs.Texts.{blob-filled, blob-made}
 use Rattle.packets.proofs.Arguments.{some_weaker}
@@ -6,11 +6,6 @@ use Rattle.packets.proofs.fields.read_blob.Goals as goal
 
 pub returns-in_err-size : goal.returns-in_err-size
 returns-in_err-size c = rw c.from_residual.ensures (λ b rest h. c.in_err-size.ensures _ _ h.size)
-
-pub returns-in_err-n : goal.returns-in_err-n
-returns-in_err-n c =
-    let x = c.in_ok-size.ensures in
-    rw c.from_residual-in_err-n.ensures (λ b rest h. c.in_err-n.ensures (length b) (to_z-of_z w32 _ x.fits ∙ (blob-filled x h).0))
 
 pub returns : goal.returns
 returns c =

@@ -2,16 +2,10 @@ use Rattle.std.proofs.Common.{◌+◌, sym, refl, subst, arith}
 use Rattle.packets.specs.Osc.{Plain, Content}
 use Rattle.packets.specs.Read.{Ends}
 use Rattle.packets.proofs.Texts.{text_unended}
-use Rattle.packets.proofs.Encodings.{plain-behind, ends-behind, encoding-slash, encoding_comma, encoding-behind, encoding-made, encoding-holds, encoding-same, encoding-whole, begins_with}
+use Rattle.packets.proofs.Encodings.{plain-behind, ends-behind, encoding_comma, encoding-behind, encoding-made, encoding-holds, encoding-same, encoding-whole, begins_with}
 use Rattle.packets.proofs.Encoded.{encoding-length}
 use Rattle.packets.proofs.Arguments.{some_where}
 use Rattle.packets.proofs.message.find_message.Goals as goal
-
-pub returns-in_err-rest : goal.returns-in_err-rest
-returns-in_err-rest c = rw c.from_residual.ensures (λ m l. c.in_err-rest.ensures (encoding-slash m _ l))
-
-pub returns-in_err-within_packet : goal.returns-in_err-within_packet
-returns-in_err-within_packet c = rw c.from_residual-in_err-within_packet.ensures (λ m l. omega (arith, c.in_err-within_packet.ensures, l.short))
 
 pub returns-in_err-n : goal.returns-in_err-n
 returns-in_err-n c =

@@ -1,8 +1,6 @@
-use Rattle.std.proofs.Common.{◌≡◌, ◌+◌, ◌-◌, length, refl, arith}
+use Rattle.std.proofs.Common.{arith}
 use Rattle.packets.proofs.Puts.{put_is}
 use Rattle.packets.proofs.put.put.Goals as goal
 
-pub returns : goal.returns
-returns c =
-    let k : c.args.at + length c.args.bytes.now - c.args.at ≡ length c.args.bytes.now = omega arith in
-    record { after = put_is _ _ _ _ _ c.copy_from_slice.ensures.after k; end = refl }
+pub returns-clause-after : goal.returns-clause-after
+returns-clause-after c = put_is _ _ _ _ _ c.copy_from_slice.ensures.after (omega arith)

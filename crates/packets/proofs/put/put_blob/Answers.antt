@@ -15,10 +15,10 @@ put-end-requires c =
     let head = ap length c.to_be_bytes-size.ensures in
     omega (arith, length-blob c.args.b.now)
 
-pub put_zeros-requires : goal.put_zeros-requires
-put_zeros-requires c =
+pub put_zeros-requires-clause-room : goal.put_zeros-requires-clause-room
+put_zeros-requires-clause-room c =
     let head = ap length c.to_be_bytes-size.ensures in
-    record { few = omega arith; room = omega (arith, length-blob c.args.b.now) }
+    omega (arith, length-blob c.args.b.now)
 
 pub returns : goal.returns
 unfolding blob_bytes filled_bytes

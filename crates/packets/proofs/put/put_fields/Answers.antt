@@ -1,9 +1,9 @@
 use Rattle.std.proofs.Common.{◌+◌, length, take, pos, ap, ◌∙◌, arith}
 use Rattle.std.specs.List.{flat_map}
-use Rattle.std.proofs.lemmas.List.{take_all, length-append}
+use Rattle.std.proofs.lemmas.List.{length-append}
 use Rattle.std.proofs.ByRecursion.{All-get_or}
 use Rattle.packets.specs.declared.fields.Argument.TheVariants.{Number}
-use Rattle.packets.specs.Write.{entry_bytes, Inside, over}
+use Rattle.packets.specs.Write.{entry_bytes, Inside}
 use Rattle.packets.proofs.Puts.{over_none, put-more, loop_put, loop_end, joined_le, joined_snoc}
 use Rattle.packets.proofs.put.put_fields.Goals as goal
 
@@ -26,11 +26,3 @@ loop-e-preserved c =
       loop_put (flat_map f) f (joined_snoc f) _ _ _ c.loop-e-test.true _ _ _ _ _ c.loop-e.invariant.0 end c.put_entry-end.ensures.after (omega arith),
       loop_end (flat_map f) f (joined_snoc f) c.args.entries.now _ _ c.loop-e-test.true _ _ _ end c.put_entry-end.ensures.end,
     )
-
-pub returns : goal.returns
-returns c =
-    let all = take_all c.loop-e.e-index c.args.entries.now (omega arith) in
-    record {
-      after = c.loop-e.invariant.0 ∙ ap (λ x. over c.args.out.now c.args.at (flat_map (entry_bytes c.args.lent.now) x)) all;
-      end = c.loop-e.invariant.1 ∙ ap (λ x. c.args.at + length (flat_map (entry_bytes c.args.lent.now) x)) all;
-    }

@@ -11,8 +11,8 @@ put-first-requires c = omega (arith, length-text (44 ∷ map letter_of c.args.en
 pub put_letters-end-requires : goal.put_letters-end-requires
 put_letters-end-requires c = omega (arith, length-text (44 ∷ map letter_of c.args.entries.now), length-map c.args.entries.now letter_of)
 
-pub put_zeros-requires : goal.put_zeros-requires
-put_zeros-requires c = record { few = omega arith; room = omega (arith, length-text (44 ∷ map letter_of c.args.entries.now), length-map c.args.entries.now letter_of) }
+pub put_zeros-requires-clause-room : goal.put_zeros-requires-clause-room
+put_zeros-requires-clause-room c = omega (arith, length-text (44 ∷ map letter_of c.args.entries.now), length-map c.args.entries.now letter_of)
 
 pub returns : goal.returns
 returns c =

@@ -8,8 +8,8 @@ use Rattle.packets.proofs.put.put_text.Goals as goal
 pub put-end-requires : goal.put-end-requires
 put-end-requires c = omega (arith, length-text c.args.s.now)
 
-pub put_zeros-requires : goal.put_zeros-requires
-put_zeros-requires c = record { few = omega arith; room = omega (arith, length-text c.args.s.now) }
+pub put_zeros-requires-clause-room : goal.put_zeros-requires-clause-room
+put_zeros-requires-clause-room c = omega (arith, length-text c.args.s.now)
 
 pub returns : goal.returns
 returns c =

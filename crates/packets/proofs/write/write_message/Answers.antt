@@ -1,6 +1,5 @@
-use Rattle.std.proofs.Common.{◌≡◌, Option, Some, None, Result, Err, ◌++◌, take, drop, sym, refl, ap, ◌∙◌, subst, inl, inr, arith, rules}
-use Rattle.std.specs.Option.{ok_or}
-use Rattle.std.proofs.lemmas.Option.{MatchOption-at_some, MatchOption-at_none}
+use Rattle.std.proofs.Common.{◌++◌, take, drop, sym, ap, ◌∙◌, subst, arith}
+use Rattle.std.proofs.lemmas.Option.{MatchOption-at_some}
 use Rattle.std.proofs.lemmas.List.{take_at}
 use Rattle.packets.specs.Osc.{Encoding}
 use Rattle.packets.specs.Encode.{encode}
@@ -8,22 +7,6 @@ use Rattle.packets.specs.Write.{content_of}
 use Rattle.packets.proofs.Encodings.{encoding-same, encoding_read}
 use Rattle.packets.proofs.Lists.{encode-length, three_puts}
 use Rattle.packets.proofs.write.write_message.Goals as goal
-
--- the value that was to stand for none, and that there was none
-none_err : {X E : Type 0} (o : Option X) (e f : E) → ◌≡◌ {A = Result X E} (Err e) (ok_or o f) → (e ≡ f) × (o ≡ None)
-none_err (Some x) e f h = absurd (cc)
-none_err None e f h = (cc, refl)
-
-pub returns-in_err-size : goal.returns-in_err-size
-returns-in_err-size c =
-    let none = none_err _ _ _ c.in_err-size.ensures.value in
-    let e : c.from_residual.result ≡ Err c.in_err-size.field-0.0 = search rules in
-    rw e (record { made = record { cause = inl (none.0, MatchOption-at_none _ _ none.1 c.message_size.ensures); same = refl }; read = tt })
-
-pub returns-then-is_short : goal.returns-then-is_short
-returns-then-is_short c =
-    let got = MatchOption-at_some _ _ _ c.in_ok-size.ensures.ok_part c.message_size.ensures in
-    record { made = record { cause = inr (refl, record { placed = got.0; encoding = got.2; bound = omega (arith, c.if-is_short.ensures) }); same = refl }; read = tt }
 
 pub put_text-tags-requires : goal.put_text-tags-requires
 put_text-tags-requires c =

@@ -1,14 +1,8 @@
-use Rattle.std.proofs.Common.{◌<◌, length, ap, subst, arith, rules}
-use Rattle.std.proofs.lemmas.List.{nil_from_length}
+use Rattle.std.proofs.Common.{◌<◌, length, subst, rules}
 use Rattle.std.proofs.lemmas.Slice.{first_rest}
 use Rattle.packets.specs.Read.{Holds}
-use Rattle.packets.proofs.Arguments.{holds_at, holds-none, holds_less, holds-refused}
+use Rattle.packets.proofs.Arguments.{holds_at, holds_less, holds-refused}
 use Rattle.packets.proofs.message.Message.next.Goals as goal
-
-pub returns-in_default-clause-value : goal.returns-in_default-clause-value
-returns-in_default-clause-value c = λ vs h.
-    let e = nil_from_length c.args.self.now.tags.now (search rules) in
-    (holds-none vs (subst (λ x. Holds x c.args.self.now.fields.now vs) e h)).0
 
 pub returns-in_err-argument-clause-value : goal.returns-in_err-argument-clause-value
 returns-in_err-argument-clause-value c = rw c.from_residual.ensures (λ vs h.
@@ -16,16 +10,11 @@ returns-in_err-argument-clause-value c = rw c.from_residual.ensures (λ vs h.
     let e = first_rest c.args.self.now.tags.now 0 some in
     absurd (holds-refused _ _ _ c.in_err-argument.ensures vs (subst (λ x. Holds x c.args.self.now.fields.now vs) e h)))
 
-pub returns : goal.returns
-returns c =
+pub returns-clause-value : goal.returns-clause-value
+returns-clause-value c = λ vs h.
     let some : 0 < length c.args.self.now.tags.now = search rules in
     let e = first_rest c.args.self.now.tags.now 0 some in
     let got = c.in_ok-argument.ensures in
     let made = c.with_left.ensures in
-    record {
-      value = λ vs h.
-          let l = holds_less _ _ _ _ _ got.0 got.1 vs (subst (λ x. Holds x c.args.self.now.fields.now vs) e h) in
-          (l.0, (l.1.0, holds_at made.left.0 made.left.1 l.1.1));
-      same = made.same;
-      left = omega (arith, ap length made.left.0, ap length e);
-    }
+    let l = holds_less _ _ _ _ _ got.0 got.1 vs (subst (λ x. Holds x c.args.self.now.fields.now vs) e h) in
+    (l.0, (l.1.0, holds_at made.left.0 made.left.1 l.1.1))
