@@ -20,6 +20,7 @@ use words::WordKind;
 
 impl<R: Rig, Q: Rule, K: WordKind> Hall<R, Q, K> {
     // A hall of this rig, rule and rest word, idle, with all stations good.
+    #[tactic(auto, unfolding(agreement::specs::Calls::after, agreement::specs::Calls::blank))]
     pub fn new(rig: R, rule: Q, rest: K) -> Self
         ensures made { Had R.Wire R.Rig.own Q.Rule K.WordKind rig rule rest (model result) [] }
         ensures agreed { Agrees (meaning_of R.Wire R.Rig.own Q.Rule K.WordKind rig rule rest) [] }
@@ -94,7 +95,7 @@ impl<R: Rig, Q: Rule, K: WordKind> Hall<R, Q, K> {
         self.decided_word(station)
     }
 
-    // 1 if the lamp of a station is lit, else 0.
+    // 1 if the lamp of a station is lit, else 0: by rule the answer is the number that a reply carries.
     pub fn lamp(&self, station: u16) -> Result<u16, Refusal>
         ensures answer { as_lit result ≡ reply (meant R.Wire R.Rig.own Q.Rule K.WordKind (model self.now)) (model self.now).state (asks_lamp station) }
         ensures answered { Answers R.Wire R.Rig.own Q.Rule K.WordKind (model self.now) (asks_lamp station) (as_lit result) }
