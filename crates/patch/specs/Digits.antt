@@ -1,5 +1,5 @@
 -- The digits of a patch number: below 16, and each once where the number is accepted.
-use Rattle.std.specs.Prelude.{◌≡◌, ℕ, ◌+◌, ◌*◌, ◌%◌, ◌^◌, ◌<◌, ◌≤◌, Bool, true, false, not, ◌≢◌, nat_eq, refl}
+use Rattle.std.specs.Prelude.{◌≡◌, ℕ, ◌+◌, ◌*◌, ◌%◌, ◌^◌, ◌<◌, ◌≤◌, Bool, true, false, cond, not, Some, None, ◌≢◌, nat_eq, refl}
 use Rattle.std.proofs.Common.{sym, ap, ap₂, ◌∙◌, ⊎_elim, arith, add-one, pow_mono}
 use Rattle.std.proofs.Math.Nat.{div-eq_of_lt}
 use Rattle.std.proofs.lemmas.Bool.{eq-eqb, eqb-true, cases_order, both_ways, not-true, not_from_false, and_from}
@@ -64,3 +64,12 @@ module _ (p : ℕ) (accepted : all_once p ≡ true) where
 -- what the loop of `new` has seen
 pub seen_has : (p i b seen : ℕ) → b ≡ box_of p i → seen ≡ mask_of 16 (λ b. any i (λ j. nat_eq (box_of p j) b)) → has seen b ≡ before p i
 seen_has p i b seen e q = ap₂ has q e ∙ has-mask_of 16 (λ b. any i (λ j. nat_eq (box_of p j) b)) (box_of p i) (box_lt p i)
+
+-- what is made of a value that is kept unless h holds
+pub joined : (h : Bool) (m more : ℕ) → cond h None (Some m) ≡ Some more → (h ≡ false) × (more ≡ m)
+joined true m more e = (cc, cc)
+joined false m more e = (refl, cc)
+
+pub not-joined : (h : Bool) (m : ℕ) → cond h None (Some m) ≡ None → h ≡ true
+not-joined true m e = refl
+not-joined false m e = cc
