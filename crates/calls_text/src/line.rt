@@ -50,7 +50,7 @@ fn on_station(scanner: &mut Scanner) -> Option<Call<u16>> {
     }
 }
 
-// The command that stands next.
+// The command that stands next. A chain of words and no table, since each is followed by a reading of its own.
 fn asked(scanner: &mut Scanner) -> Option<Command>
     ensures { IfSome result Fits }
 {

@@ -147,7 +147,7 @@ fn floors(scanner: &mut Scanner) -> Result<Floors<u64>, Expected> {
     })
 }
 
-// The setting that stands next, if one does.
+// The setting that stands next, if one does. A chain of words and no table, since each is followed by a reading of its own.
 fn setting(heap: Global, scanner: &mut Scanner) -> Result<Option<Setting>, Stop> {
     let setting = if scanner.take_word(b"rule") {
         scanner.skip_blanks();
