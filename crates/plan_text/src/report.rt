@@ -124,7 +124,10 @@ impl fmt::Display for Planned {
 impl fmt::Display for Unreadable {
     fn fmt<W: fmt::Write>(&self, f: &mut fmt::Formatter<W>) -> fmt::Result {
         let Unreadable { column, expected } = self;
-        write!(f, "cannot be read at column {column}: expected {expected}\n")
+        write!(
+            f,
+            "cannot be read at column {column}: expected {expected}\n"
+        )
     }
 }
 
