@@ -341,7 +341,7 @@ impl<R: Rig, Q: Rule, K: WordKind> Hall<R, Q, K> {
             &self.rig,
             &self.rule,
             self.rest,
-            RoundKind::of(round),
+            RoundKind::from(round),
             &start,
             sheet,
         )?;

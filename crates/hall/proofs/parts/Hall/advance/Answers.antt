@@ -6,4 +6,4 @@ pub returns : goal.returns
 returns g c =
     let run = c.in_ok-outcome.ensures in
     advance_is g.R.Wire g.R.Rig g.Q.Rule g.K.WordKind (model c.args.self.now) c.args.take c.args.caller c.args.kings
-    c.args.rounds c.args.sheet.now _ _ _ _ c.of.ensures run.value run.after c.stage_after-self.ensures
+    c.args.rounds c.args.sheet.now _ _ _ _ c.from.ensures run.value run.after c.stage_after-self.ensures
