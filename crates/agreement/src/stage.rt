@@ -39,17 +39,16 @@ fn place_of_three(number: u8) -> u8
     number % 3
 }
 
-impl RoundKind {
+impl From<u8> for RoundKind {
+    ghost from_gives = { λ number kind. kind ≡ kind_of number };
+
     // What the round of this number does.
-    pub fn of(number: u8) -> RoundKind
-        ensures { result ≡ kind_of number }
-    {
-        if number == 1 {
-            return RoundKind::Caller;
-        }
-        match place_of_three(number) {
-            2 => RoundKind::Weak,
-            0 => RoundKind::Graded,
+    #[tactic(auto, unfolding(crate::specs::Rounds::kind_of))]
+    fn from(number: u8) -> RoundKind {
+        match (number, place_of_three(number)) {
+            (1, _) => RoundKind::Caller,
+            (_, 2) => RoundKind::Weak,
+            (_, 0) => RoundKind::Graded,
             _ => RoundKind::King { number: number / 3 },
         }
     }

@@ -1,6 +1,7 @@
 -- The stations of a sheet's entries, and the entries of one trio.
-use Rattle.std.proofs.Common.{◌≡◌, ℕ, ◌+◌, ◌*◌, ◌/◌, ◌%◌, ◌<◌, ◌≤◌, true, false, eqb, ◌≢◌, ◌⊎◌, List, length, get_or, drop, set, sym, refl, ap, ◌∙◌, inl, inr, ⊎_elim, arith, get_or-set_other, get_or-set_same}
-use Rattle.std.proofs.lemmas.List.{drop-set-lt, length-set}
+use Rattle.std.proofs.Common.{◌≡◌, ℕ, ◌+◌, ◌*◌, ◌/◌, ◌%◌, ◌<◌, ◌≤◌, true, false, eqb, ◌≢◌, ◌⊎◌, List, length, get_or, drop, replicate, set, sym, refl, ap, ◌∙◌, inl, inr, ⊎_elim, arith, get_or-set_other, get_or-set_same}
+use Rattle.std.proofs.lemmas.List.{drop-set-lt, length-set, length-replicate, get_or-replicate}
+use Rattle.std.proofs.Math.ListN.{drop_of_length-le}
 use Rattle.std.proofs.lemmas.Bool.{cases_Bool, cases_eq, eqb-true, eq-eqb, and_parts, and_from, both_ways, cond-true, cond-false}
 use Rattle.std.proofs.lemmas.Bool.Decides.{nat_tests}
 use Rattle.agreement.specs.Rounds.{Setting, lowest, middle, highest, vote_in, vote}
@@ -203,18 +204,19 @@ module _ (n : ℕ) (e : Setting) (a b c : ℕ) (ab : a < b) (bc : b < c) (cn : c
             (λ h. outside s k h ∙ sym (cond-false _ _ _ h))
             (cases_Bool (with_trio n a b c k));
         rest = put_rest _ c a b (v c) (omega arith) (omega arith) (omega arith) ∙ put_rest _ b a c (v b) (omega arith) (omega arith) (omega arith) ∙ put_rest s a b c (v a) (omega arith) (omega arith) (omega arith);
+        long = put-length _ c a b (v c) ∙ put-length _ b a c (v b) ∙ put-length s a b c (v a);
       }
 
 none-there : (n : ℕ) (e : Setting) (k : ℕ) → three n k ≡ false → vote_entry n e k ≡ void
 unfolding three vote_entry
 none-there n e k h = cond-false _ _ _ h
 
--- all votes, written to a sheet of void
-pub all_wrote : (n : ℕ) (e : Setting) (s blank old : List ℕ) → 4096 ≤ length s → Wrote (three n) (vote_entry n e) s blank
-    → ((k : ℕ) → k < 4096 → get_or blank k 0 ≡ void) → drop 4096 blank ≡ drop 4096 old → s ≡ vote_sheet n e old
+-- all votes, written to 4,096 entries of void
+pub all_wrote : (n : ℕ) (e : Setting) (s blank old : List ℕ) → length old ≡ 4096 → blank ≡ replicate 4096 void → Wrote (three n) (vote_entry n e) s blank → s ≡ vote_sheet n e old
 unfolding vote_sheet
-all_wrote n e s blank old long w each rest =
-    filled_from (vote_entry n e) 4096 s old long
+all_wrote n e s blank old few void-all w =
+    let long : length blank ≡ 4096 = ap length void-all ∙ length-replicate 4096 void in
+    filled_from (vote_entry n e) 4096 s old (omega (arith, w.long, long))
     (λ k lt. w.each k lt
-    ∙ ⊎_elim (λ h. cond-true _ _ _ h) (λ h. cond-false _ _ _ h ∙ each k lt ∙ sym (none-there n e k h)) (cases_Bool (three n k)))
-    (w.rest ∙ rest)
+    ∙ ⊎_elim (λ h. cond-true _ _ _ h) (λ h. cond-false _ _ _ h ∙ ap (λ (x : List ℕ). get_or x k 0) void-all ∙ get_or-replicate 4096 k void 0 lt ∙ sym (none-there n e k h)) (cases_Bool (three n k)))
+    (drop_of_length-le s {i = 4096} (omega (arith, w.long, long)) ∙ sym (drop_of_length-le old {i = 4096} (omega (arith, few))))

@@ -1,69 +1,74 @@
--- A search that tries candidates alone, and keeps the lowest that passes, finds the smallest word that passes.
-use Rattle.std.proofs.Common.{◌≡◌, ℕ, ◌+◌, ◌<◌, ◌≤◌, Bool, true, false, cond, eqb, ltb, sym, ap, ◌∙◌, inl, inr, ⊎_elim, arith}
-use Rattle.std.proofs.lemmas.Bool.{lt-ltb, le-ltb, eq-eqb, ne_eqb, cases_lt, cases_Bool, both_ways, cond-true, cond-false}
+-- A search that keeps the lowest code that passes finds the smallest word that passes, where each such word is among the codes.
+use Rattle.std.proofs.Common.{◌≡◌, ℕ, zero, suc, ◌<◌, Bool, true, false, ◌&&◌, ◌⊎◌, Some, None, Option, unwrap_or, sym, refl, ap, ◌∙◌, inl, inr, ⊎_elim, arith}
+use Rattle.std.proofs.lemmas.Bool.{lt-ltb, ltb-true, cases_eq, cases_Bool, both_ways, and_parts, and_from, cond-true, cond-false}
 use Rattle.sets.specs.Sets.{smallest}
 use Rattle.sets.proofs.Tests.{smallest-is}
-use Rattle.rigs.specs.Lines.{void}
-use Rattle.agreement.proofs.Searches.{Smallest, smallest-found, smallest_hit}
+use Rattle.agreement.proofs.Searches.{Smallest, smallest-found}
+use Rattle.rounds.specs.Searches.{under, lower, lowest}
 
--- after i candidates f 0, f 1, .. : t is the test that counts, s k the test of candidate k, and best is void where none has passed
-pub record Low (t : ℕ → Bool) (s : ℕ → ℕ → Bool) (f : ℕ → ℕ) (i best : ℕ) : Type 0 where
-  pub within : best ≤ void
-  pub holds : best < void → t best ≡ true
-  pub past : (k : ℕ) → k < i → f k < best → s k (f k) ≡ false
+under-same : (best : Option ℕ) (w : ℕ) → best ≡ Some w → under best w ≡ false
+under-same best w e = rw e (grind arith)
 
-module _ (t : ℕ → Bool) (s : ℕ → ℕ → Bool) (f : ℕ → ℕ) where
-  pub low-none : Low t s f 0 void
-  low-none = record { within = omega arith; holds = λ h. absurd (omega arith); past = λ k h. absurd (omega arith) }
+under-more : (best : Option ℕ) (w c : ℕ) → w < c → under best c ≡ true → under best w ≡ true
+under-more None w c l h = refl
+under-more (Some b) w c l h = lt-ltb w b (omega (arith, ltb-true c b h))
 
-  same : (i best : ℕ) → Low t s f i best → (f i < best → s i (f i) ≡ false) → Low t s f (i + 1) best
-  same i best h e =
-      record { within = h.within; holds = h.holds; past = λ k lt. ⊎_elim (λ a. h.past k a) (λ b. let z : k ≡ i = omega arith in rw z e) (cases_lt k i) }
+module _ (t : ℕ → Bool) where
+  -- what is found passes, or was found before
+  lower-holds : (best code : Option ℕ) (w : ℕ) → lower t best code ≡ Some w → (best ≡ Some w) ⊎ (t w ≡ true)
+  lower-holds best None w e = inl e
+  lower-holds best (Some c) w e =
+      ⊎_elim
+      (λ (h : (under best c && t c) ≡ true). let z : c ≡ w = cc (sym (cond-true (under best c && t c) (Some c) best h) ∙ e) in inr (ap t (sym z) ∙ (and_parts (under best c) (t c) h).1))
+      (λ (h : (under best c && t c) ≡ false). inl (sym (cond-false (under best c && t c) (Some c) best h) ∙ e))
+      (cases_Bool (under best c && t c))
 
-  taken : (i best : ℕ) → Low t s f i best → f i < best → t (f i) ≡ true → Low t s f (i + 1) (f i)
-  taken i best h lt e =
-      record {
-        within = omega (arith, h.within);
-        holds = λ _. e;
-        past = λ k less below. ⊎_elim (λ a. h.past k a (omega arith)) (λ b. let z : k ≡ i = omega arith in absurd (omega (arith, ap f z))) (cases_lt k i);
-      }
+  lower-past : (best code : Option ℕ) (w : ℕ) → under (lower t best code) w ≡ true → under best w ≡ true
+  lower-past best None w e = e
+  lower-past best (Some c) w e =
+      ⊎_elim
+      (λ (h : (under best c && t c) ≡ true).
+      under-more best w c (ltb-true w c (ap (λ x. under x w) (sym (cond-true (under best c && t c) (Some c) best h)) ∙ e)) (and_parts (under best c) (t c) h).0)
+      (λ (h : (under best c && t c) ≡ false). ap (λ x. under x w) (sym (cond-false (under best c && t c) (Some c) best h)) ∙ e)
+      (cases_Bool (under best c && t c))
 
-  pub low-more : (i best : ℕ) (b : Bool) → Low t s f i best → (f i < best → b ≡ s i (f i)) → (s i (f i) ≡ true → t (f i) ≡ true) → Low t s f (i + 1) (cond (ltb (f i) best) (cond b (f i) best) best)
-  low-more i best true h is up =
-      ⊎_elim (λ lt. rw (lt-ltb (f i) best lt) (taken i best h lt (up (sym (is lt)))))
-      (λ ge. rw (le-ltb (f i) best ge) (same i best h (λ lt. absurd (omega arith)))) (cases_lt (f i) best)
-  low-more i best false h is up =
-      ⊎_elim (λ lt. rw (lt-ltb (f i) best lt) (same i best h (λ _. sym (is lt))))
-      (λ ge. rw (le-ltb (f i) best ge) (same i best h (λ lt. absurd (omega arith)))) (cases_lt (f i) best)
+  lower-tried : (best : Option ℕ) (c : ℕ) → under (lower t best (Some c)) c ≡ true → t c ≡ false
+  lower-tried best c e =
+      ⊎_elim
+      (λ (h : t c ≡ true).
+      absurd (both_ways (under (lower t best (Some c)) c)
+      (under-same _ c (cond-true (under best c && t c) (Some c) best (and_from (under best c) (t c) (lower-past best (Some c) c e) h))) e))
+      (λ h. h)
+      (cases_Bool (t c))
 
-  -- where every word that passes is a candidate that passes its test
-  module _ (n : ℕ) (small : (w : ℕ) → t w ≡ true → w < 4096) (only : (w : ℕ) → t w ≡ true → (k : ℕ) × (k < n) × (f k ≡ w) × (s k w ≡ true)) where
-    clear : (best : ℕ) → Low t s f n best → (w : ℕ) → w < best → t w ≡ false
-    clear best h w lt =
+  module _ (f : ℕ → Option ℕ) (from : Option ℕ) where
+    pub lowest-holds : (n w : ℕ) → lowest t f from n ≡ Some w → (from ≡ Some w) ⊎ (t w ≡ true)
+    unfolding lowest
+    lowest-holds zero w e = inl e
+    lowest-holds (suc n) w e = ⊎_elim (λ x. lowest-holds n w x) (λ x. inr x) (lower-holds (lowest t f from n) (f n) w e)
+
+    -- what is below what is found was below what was found before, and does not pass if it was tried
+    pub lowest-past : (n w : ℕ) → under (lowest t f from n) w ≡ true → under from w ≡ true
+    unfolding lowest
+    lowest-past zero w e = e
+    lowest-past (suc n) w e = lowest-past n w (lower-past (lowest t f from n) (f n) w e)
+
+    pub lowest-tried : (n w k : ℕ) → k < n → f k ≡ Some w → under (lowest t f from n) w ≡ true → t w ≡ false
+    unfolding lowest
+    lowest-tried zero w k l is e = absurd (omega arith)
+    lowest-tried (suc n) w k l is e =
         ⊎_elim
-        (λ e. let o = only w e in absurd (both_ways (s o.0 (f o.0)) (h.past o.0 o.1 (rw o.2 lt)) (rw o.2 o.3)))
-        (λ e. e)
-        (cases_Bool (t w))
+        (λ (z : k ≡ n). lower-tried (lowest t f from n) w (ap (λ x. under (lower t (lowest t f from n) x) w) (sym (ap f (sym z) ∙ is)) ∙ e))
+        (λ z. lowest-tried n w k (omega arith) is (lower-past (lowest t f from n) (f n) w e))
+        (cases_eq k n)
 
-    pub low-all : (best : ℕ) → Low t s f n best → best ≡ smallest 4096 t void
-    low-all best h =
-        ⊎_elim
-        (λ lt. sym (smallest-is 4096 t void best (small best (h.holds lt)) (clear best h) (h.holds lt)))
-        (λ ge. none (smallest-found 4096 t void) (omega (arith, h.within)))
-        (cases_lt best void)
-      where
-        none : Smallest 4096 t void (smallest 4096 t void) → best ≡ void → best ≡ smallest 4096 t void
-        none (inl x) e = absurd (both_ways (t (smallest 4096 t void)) (clear best h (smallest 4096 t void) (omega (arith, x.0, e))) x.1)
-        none (inr x) e = e ∙ sym x.0
-
--- a search with void where none passes tells what it is with another default
-pub smallest_or : (t : ℕ → Bool) (d s : ℕ) → s ≡ smallest 4096 t void → cond (eqb s void) d s ≡ smallest 4096 t d
-smallest_or t d s e = go (smallest-found 4096 t void) (smallest-found 4096 t d)
-  where
-    go : Smallest 4096 t void (smallest 4096 t void) → Smallest 4096 t d (smallest 4096 t d) → cond (eqb s void) d s ≡ smallest 4096 t d
-    go (inl x) y =
-        let a = smallest_hit 4096 t d (smallest 4096 t void) x.0 x.1 in
-        let b = smallest_hit 4096 t void (smallest 4096 t d) (omega (arith, x.0, a.0)) a.1 in
-        cond-false _ _ _ (ne_eqb s void (λ z. omega (arith, x.0, e, z))) ∙ omega (arith, a.0, b.0, e)
-    go (inr x) (inl y) = absurd (both_ways (t (smallest 4096 t d)) (x.1 _ y.0) y.1)
-    go (inr x) (inr y) = cond-true _ _ _ (eq-eqb s void (e ∙ x.0)) ∙ sym y.0
+  -- what is found, or d where nothing passes, is the smallest that passes
+  pub smallest-word : (small : (w : ℕ) → t w ≡ true → w < 4096) (best : Option ℕ) → ((w : ℕ) → best ≡ Some w → t w ≡ true) → ((w : ℕ) → under best w ≡ true → t w ≡ false)
+      → (d : ℕ) → unwrap_or best d ≡ smallest 4096 t d
+  smallest-word small None holds past d = go (smallest-found 4096 t d)
+    where
+      go : Smallest 4096 t d (smallest 4096 t d) → d ≡ smallest 4096 t d
+      go (inl x) = absurd (both_ways (t (smallest 4096 t d)) (past _ refl) x.1)
+      go (inr x) = sym x.0
+  smallest-word small (Some b) holds past d =
+      sym (smallest-is 4096 t d b (small b (holds b refl)) (λ w l. past w (lt-ltb w b l)) (holds b refl))

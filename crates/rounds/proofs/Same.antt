@@ -1,6 +1,7 @@
 -- What stations make of votes depends only on what three different stations have of their trios.
-use Rattle.std.proofs.Common.{◌≡◌, ℕ, ◌+◌, ◌*◌, ◌/◌, ◌%◌, ◌<◌, ◌≤◌, Bool, true, not, ◌&&◌, ◌||◌, eqb, ◌≢◌, ◌⊎◌, List, refl, ap, ◌∙◌, inl, inr, arith}
+use Rattle.std.proofs.Common.{◌≡◌, ℕ, ◌+◌, ◌*◌, ◌/◌, ◌%◌, ◌<◌, ◌≤◌, Bool, true, not, ◌&&◌, ◌||◌, eqb, ◌≢◌, ◌⊎◌, List, take, refl, ap, ◌∙◌, inl, inr, arith}
 use Rattle.std.proofs.lemmas.Bool.{cases_eq, eq-eqb, ne_eqb, cond-true}
+use Rattle.std.proofs.lemmas.List.{get_or-take}
 use Rattle.rigs.specs.Lines.{void}
 use Rattle.agreement.specs.Meanings.{Rule}
 use Rattle.agreement.specs.Rounds.{Setting, fails, vote, unanimous, weak_test, weak_held, in_y, graded_held, graded_lit}
@@ -77,3 +78,7 @@ unfolding vote_sheet
 sheet-votes n e sheet few p q r lp lq lr x y z =
     get_or-filled (vote_entry n e) 4096 sheet (256 * p + 16 * q + r) 0 (omega arith)
     ∙ entry_is n e (256 * p + 16 * q + r) p q r (omega arith) (omega arith) (omega arith) (three_from n p q r (record { lp = lp; lq = lq; lr = lr; pq = x; pr = y; qr = z }))
+
+-- so are those on the first 4,096 entries of a sheet
+pub first_votes : (n : ℕ) (sheet : List ℕ) → n ≤ 16 → SameVotes n (votes_on (take 4096 sheet)) (votes_on sheet)
+first_votes n sheet few p q r lp lq lr x y z = get_or-take 4096 sheet (256 * p + 16 * q + r) 0 (omega arith)

@@ -1,4 +1,4 @@
--- The turns of loops over stations: tests of all of them, and the set of those that pass a test.
+-- Tests of all stations, and the set of those that pass a test.
 use Rattle.std.proofs.Common.{◌≡◌, ℕ, zero, suc, ◌+◌, ◌^◌, ◌<◌, Bool, true, false, cond, ◌&&◌, ◌||◌, eqb, refl, ap, ◌∙◌, ap₂, ⊎_elim, add-one, arith}
 use Rattle.std.proofs.lemmas.Bool.{and_from, and_left, and_right, cases_eq}
 use Rattle.sets.specs.Sets.{has, every, any, mask_of, smallest}

@@ -24,9 +24,9 @@ implied false false h = refl
 module _ (R : Rule) (L : LawfulRule R) (words : ℕ → Bool) (v : Votes) (p : ℕ) (lp : p < R.n) where
   weak-occurs : (w : ℕ) → (words w && weak_test R v p w) ≡ true → occurs R.n v p w ≡ true
   weak-occurs w h =
-      let t = weak_some R L v p lp w (and_parts (words w) (weak_test R v p w) h).1 in
+      let t = weak_some R L v p w (and_parts (words w) (weak_test R v p w) h).1 in
       let q = t.0 in
-      occurs-at R.n v p q (third_of p q) w t.1 (omega (arith, (third-is p q).0, L.sized.0)) (third-agrees R L v p lp q w (and_parts _ (unanimous R.n v p w q) t.2).1)
+      occurs-at R.n v p q (third_of p q) w t.1 (omega (arith, (third-is p q).0, L.sized.0)) (third-agrees R L v p q w (and_parts _ (unanimous R.n v p w q) t.2).1)
 
   graded-occurs : (w : ℕ) → (words w && any R.n (in_y R v p w)) ≡ true → occurs R.n v p w ≡ true
   graded-occurs w h =

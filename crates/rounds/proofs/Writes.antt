@@ -6,11 +6,11 @@ use Rattle.rounds.specs.Sheets.{Wrote}
 
 -- nothing was written
 pub wrote_none : (t : ℕ → Bool) (f : ℕ → ℕ) (s : List ℕ) → ((k : ℕ) → t k ≡ false) → Wrote t f s s
-wrote_none t f s h = record { each = λ k _. sym (ap (λ b. cond b (f k) (get_or s k 0)) (h k)); rest = refl }
+wrote_none t f s h = record { each = λ k _. sym (ap (λ b. cond b (f k) (get_or s k 0)) (h k)); rest = refl; long = refl }
 
 -- the same entries, by another test
 pub wrote_like : (t u : ℕ → Bool) (f : ℕ → ℕ) (s old : List ℕ) → ((k : ℕ) → t k ≡ u k) → Wrote t f s old → Wrote u f s old
-wrote_like t u f s old h w = record { each = λ k l. w.each k l ∙ ap (λ b. cond b (f k) (get_or old k 0)) (h k); rest = w.rest }
+wrote_like t u f s old h w = record { each = λ k l. w.each k l ∙ ap (λ b. cond b (f k) (get_or old k 0)) (h k); rest = w.rest; long = w.long }
 
 twice : (x y : Bool) (v old : ℕ) → cond y v (cond x v old) ≡ cond (x || y) v old
 twice true true v old = refl
@@ -24,6 +24,7 @@ wrote_more t u f s' s old w w' =
     record {
       each = λ k l. w'.each k l ∙ ap (λ x. cond (u k) (f k) x) (w.each k l) ∙ twice (t k) (u k) (f k) (get_or old k 0);
       rest = w'.rest ∙ w.rest;
+      long = w'.long ∙ w.long;
     }
 
 -- A loop over a number m writes, of the entries that pass a test, those whose number is m.

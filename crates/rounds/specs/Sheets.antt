@@ -53,3 +53,4 @@ with_trio n a b c k = with_pair n a b k && high k == c
 pub record Wrote (test : ℕ → Bool) (f : ℕ → ℕ) (sheet old : List ℕ) : Type 0 where
   pub each : (k : ℕ) → k < 4096 → slice_index sheet k ≡ cond (test k) (f k) (slice_index old k)
   pub rest : drop 4096 sheet ≡ drop 4096 old
+  pub long : length sheet ≡ length old

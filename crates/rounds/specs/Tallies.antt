@@ -1,9 +1,9 @@
 -- The tests of a station on the votes of a sheet, one other station at a time, and the words that it tries.
-use Rattle.std.specs.Prelude.{ℕ, Bool, cond, not, ◌&&◌, ◌||◌, List, ◌==◌, slice_index}
-use Rattle.rigs.specs.Lines.{silence}
+use Rattle.std.specs.Prelude.{ℕ, Bool, false, cond, not, ◌&&◌, ◌||◌, List, Some, None, Option, ◌==◌, slice_index_or}
+use Rattle.std.specs.Bool.{then_some}
 use Rattle.sets.specs.Sets.{mask_of}
 use Rattle.agreement.specs.Meanings.{Rule}
-use Rattle.agreement.specs.Rounds.{unanimous, graded_held, graded_lit}
+use Rattle.agreement.specs.Rounds.{unanimous, weak_test, graded_held, graded_lit}
 use Rattle.agreement.specs.Sheets.{sixteen}
 use Rattle.rounds.specs.declared.outcome.Outcome.{Outcome}
 
@@ -27,17 +27,22 @@ sure n v p w q = q == p || unanimous n v p w q
 abbrev pub third_of : ℕ → ℕ → ℕ
 third_of p q = cond (not (p == 0) && not (q == 0)) 0 (cond (not (p == 1) && not (q == 1)) 1 2)
 
--- the code that v(p,q,r) is for every other r, or silence where there is none or q is p
-unfoldable pub row_code : ℕ → Votes → ℕ → ℕ → ℕ
-row_code n v p q = cond (not (q == p) && unanimous n v p (v p q (third_of p q)) q) (v p q (third_of p q)) silence
+-- the code that v(p,q,r) is for every other r, where there is one and q is not p
+unfoldable pub row_code : ℕ → Votes → ℕ → ℕ → Option ℕ
+row_code n v p q = then_some (not (q == p) && unanimous n v p (v p q (third_of p q)) q) (v p q (third_of p q))
+
+-- the code is w
+abbrev pub is_code : Option ℕ → ℕ → Bool
+is_code None w = false
+is_code (Some c) w = c == w
 
 -- q is neither p nor a station whose code in the row is w
-abbrev pub left_out : List ℕ → ℕ → ℕ → ℕ → Bool
-left_out row p w q = not (q == p) && not (slice_index row q == w)
+abbrev pub left_out : List (Option ℕ) → ℕ → ℕ → ℕ → Bool
+left_out row p w q = not (q == p) && not (is_code (slice_index_or row q None) w)
 
--- the lamp of p, which holds what the list says, is lit: p and those who are unanimous on that code cannot fail
-abbrev pub lit_with : (ℕ → Bool) → ℕ → Votes → List ℕ → ℕ → Bool
-lit_with fails n v held p = not (fails (mask_of n (sure n v p (slice_index held p))))
+-- w is a word and passes the weak test
+abbrev pub weak_tried : Rule → Votes → ℕ → (ℕ → Bool) → ℕ → Bool
+weak_tried R v p words w = words w && weak_test R v p w
 
 -- what all stations hold after a graded round with these votes, and which lamps are lit
 abbrev pub graded_by : Rule → (ℕ → Bool) → ℕ → Votes → Outcome

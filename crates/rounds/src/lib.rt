@@ -4,10 +4,13 @@
 pub mod graded;
 pub mod outcome;
 pub mod round;
+mod search;
 mod sheet;
 pub mod start;
-mod tally;
+mod stations;
 pub mod tried;
+mod trio;
+mod view;
 pub mod vote;
 pub mod weak;
 pub mod wires;

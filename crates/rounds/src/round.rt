@@ -1,5 +1,5 @@
 // One round of a cue, of whichever kind it is.
-ghost use Rattle.std.specs.Prelude.{◌≡◌, ℕ, ◌-◌, ◌≤◌, length, if◌then◌else◌, nat_le};
+ghost use Rattle.std.specs.Prelude.{◌≡◌, ◌-◌, length, if◌then◌else◌, nat_le};
 ghost use Rattle.rules.specs.Kings.{king};
 ghost use Rattle.words.specs.Kinds.{is_word};
 ghost use Rattle.agreement.specs.Made.{rule_of, rig_of};
@@ -10,9 +10,9 @@ ghost use Rattle.rounds.specs.Outcomes.{outcome_of};
 
 use crate::graded::grade;
 use crate::outcome::Outcome;
-use crate::sheet::is_short;
+use crate::sheet::Votes;
 use crate::start::Start;
-use crate::vote::vote_all;
+use crate::vote::Setting;
 use crate::weak::weak_codes;
 use crate::wires::{caller_round, king_round};
 use agreement::stage::RoundKind;
@@ -22,52 +22,43 @@ use rules::Rule;
 use words::WordKind;
 
 // King number j of a caller, counted from 1: the other stations in rising order.
+// Kings::king answers none above the number of kings, which a round is not told.
 fn king_of(caller: u8, j: u8) -> u8
     ensures { result ≡ king caller j }
 {
     if j <= caller { j.saturating_sub(1) } else { j }
 }
 
-// What a round of this kind leaves, where the sheet has room for the votes.
+// What a round of this kind leaves, with the votes of a weak or graded round.
 fn run_kind<R: Rig, Q: Rule, K: WordKind>(
     rig: &R,
     rule: &Q,
     rest: K,
     kind: RoundKind,
     start: &Start,
-    sheet: &mut [u16],
+    votes: &mut Votes,
 ) -> Outcome
-    requires { 4096 ≤ length sheet.old }
     ensures value { result ≡ outcome_of kind (rule_of Q.Rule rule.now) (setting_from (rig_of R.Wire R.Rig.own rig.now) (is_word K.WordKind.word) start.now) (K.WordKind.code rest) start.now.caller start.now.lamps }
-    ensures after { sheet.new ≡ round_sheet kind (Q.Rule.stations rule.now) (setting_from (rig_of R.Wire R.Rig.own rig.now) (is_word K.WordKind.word) start.now) sheet.old }
+    ensures after { votes.new ≡ round_sheet kind (Q.Rule.stations rule.now) (setting_from (rig_of R.Wire R.Rig.own rig.now) (is_word K.WordKind.word) start.now) votes.old }
 {
-    let n = rule.n();
+    let lamps = start.lamps;
     match kind {
         RoundKind::Caller => {
             let held = caller_round(rig, rule, rest, start);
-            Outcome {
-                held,
-                lamps: start.lamps,
-            }
+            Outcome { held, lamps }
         }
         RoundKind::Weak => {
-            vote_all::<R, K>(rig, n, start, sheet);
-            let held = weak_codes::<Q, K>(rule, sheet, n);
-            Outcome {
-                held,
-                lamps: start.lamps,
-            }
+            Setting { rig, rule, start }.vote::<K>(votes);
+            let held = weak_codes::<Q, K>(rule, votes);
+            Outcome { held, lamps }
         }
         RoundKind::Graded => {
-            vote_all::<R, K>(rig, n, start, sheet);
-            grade::<Q, K>(rule, sheet, n, rest.encode())
+            Setting { rig, rule, start }.vote::<K>(votes);
+            grade::<Q, K>(rule, rest.encode(), votes)
         }
         RoundKind::King { number } => {
             let held = king_round(rig, rule, rest, start, king_of(start.caller, number));
-            Outcome {
-                held,
-                lamps: start.lamps,
-            }
+            Outcome { held, lamps }
         }
     }
 }
@@ -84,8 +75,6 @@ pub fn run<R: Rig, Q: Rule, K: WordKind>(
     ensures value { result ≡ fitting sheet.old (outcome_of kind (rule_of Q.Rule rule.now) (setting_from (rig_of R.Wire R.Rig.own rig.now) (is_word K.WordKind.word) start.now) (K.WordKind.code rest) start.now.caller start.now.lamps) }
     ensures after { sheet.new ≡ (if nat_le 4096 (length sheet.old) then round_sheet kind (Q.Rule.stations rule.now) (setting_from (rig_of R.Wire R.Rig.own rig.now) (is_word K.WordKind.word) start.now) sheet.old else sheet.old) }
 {
-    if is_short(sheet.len()) {
-        return Err(Refusal::SheetTooShort);
-    }
-    Ok(run_kind(rig, rule, rest, kind, start, sheet))
+    let votes = sheet.first_chunk_mut().ok_or(Refusal::SheetTooShort)?;
+    Ok(run_kind(rig, rule, rest, kind, start, votes))
 }

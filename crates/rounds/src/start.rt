@@ -17,6 +17,6 @@ impl Start {
     pub(crate) fn code(&self, p: u8) -> u16
         ensures { result ≡ slice_index self.now.held p }
     {
-        if p < 16 { self.held[p as usize] } else { 0 }
+        self.held.get(usize::from(p)).copied().unwrap_or(0)
     }
 }

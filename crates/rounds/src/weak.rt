@@ -1,28 +1,27 @@
 // The weak round: each station takes the smallest word under which all stations but itself and those that are unanimous on the word can fail.
 //
 // Only words among the station's votes are tried.
-ghost use Rattle.std.specs.Prelude.{◌≡◌, ℕ, ◌<◌, ◌≤◌, Bool, not, ◌&&◌, length, if◌then◌else◌, ◌==◌, nat_lt, slice_index};
-ghost use Rattle.sets.specs.Sets.{mask_of};
-ghost use Rattle.rigs.specs.Lines.{silence};
+ghost use Rattle.std.specs.Prelude.{◌≡◌, ℕ, not, ◌&&◌, ◌==◌, unwrap_or};
+ghost use Rattle.sets.specs.Sets.{mask_of, smallest};
 ghost use Rattle.words.specs.Kinds.{is_word};
 ghost use Rattle.agreement.specs.Made.{rule_of};
 ghost use Rattle.agreement.specs.Rounds.{unanimous, weak_held};
 ghost use Rattle.agreement.specs.Sheets.{sixteen};
 ghost use Rattle.rounds.specs.Sheets.{votes_on, fitting};
-ghost use Rattle.rounds.specs.Tallies.{third_of, row_code, left_out};
+ghost use Rattle.rounds.specs.Tallies.{third_of, row_code, left_out, weak_tried};
 
-use crate::sheet::{is_short, vote_at};
-use crate::tally::is_unanimous;
+use crate::search::lowest;
+use crate::sheet::Votes;
+use crate::stations::{by_station, set_of};
+use crate::view::View;
 use refusals::Refusal;
-use rigs::{SILENCE, VOID};
+use rigs::VOID;
 use rules::Rule;
-use sets::with;
 use words::{WordKind, is_word};
 
 // A station other than p and q.
 fn third(p: u8, q: u8) -> u8
-    ensures value { result ≡ third_of p q }
-    ensures within { result < 3 }
+    ensures { result ≡ third_of p q }
 {
     if (p != 0) & (q != 0) {
         0
@@ -33,114 +32,58 @@ fn third(p: u8, q: u8) -> u8
     }
 }
 
-// Whether q is in X(w) at p: another station than p, whose v(p,q,r) is w for every other r.
-fn is_in_x(sheet: &[u16], n: u8, p: u8, w: u16, q: u8) -> bool
-    requires { (4096 ≤ length sheet.now) × (n ≤ 16) × (p < 16) × (q < 16) }
-    ensures { result ≡ (not (q == p) && unanimous n (votes_on sheet.now) p w q) }
-{
-    (q != p) & is_unanimous(sheet, n, p, w, q)
-}
-
-// The code that v(p,q,r) is for every other r, or silence where there is none or q is p.
-fn row_code(sheet: &[u16], n: u8, p: u8, q: u8) -> u16
-    requires { (4096 ≤ length sheet.now) × (n ≤ 16) × (p < 16) × (q < 16) }
-    ensures { result ≡ row_code n (votes_on sheet.now) p q }
-{
-    let w = vote_at(sheet, p, q, third(p, q));
-    if is_in_x(sheet, n, p, w, q) {
-        w
-    } else {
-        SILENCE
+impl<'a, Q: Rule> View<'a, Q> {
+    // Whether q is in X(w): another station than p, whose v(p,q,r) is w for every other r.
+    fn is_in_x(&self, w: u16, q: u8) -> bool
+        ensures { result ≡ (not (q == self.now.p) && unanimous (Q.Rule.stations self.now.rule.now) (votes_on self.now.votes.now) self.now.p w q) }
+    {
+        q != self.p && self.is_unanimous(w, q)
     }
-}
 
-// These codes for every q.
-fn row_codes(sheet: &[u16], n: u8, p: u8) -> [u16; 16]
-    requires { (4096 ≤ length sheet.now) × (n ≤ 16) × (p < 16) }
-    ensures { (q : ℕ) → q < n → slice_index result q ≡ row_code n (votes_on sheet.now) p q }
-{
-    let mut row = [SILENCE; 16];
-    for q in 0..n {
-        row[q as usize] = row_code(sheet, n, p, q);
+    // The code w with q in X(w), if there is one.
+    fn row_code(&self, q: u8) -> Option<u16>
+        ensures { result ≡ row_code (Q.Rule.stations self.now.rule.now) (votes_on self.now.votes.now) self.now.p q }
+    {
+        let w = self.vote(q, third(self.p, q));
+        self.is_in_x(w, q).then_some(w)
     }
-    row
-}
 
-// Whether q is another station than p, and its code is another than w.
-fn is_left_out(p: u8, w: u16, q: u8, code: u16) -> bool
-    ensures { result ≡ (not (q == p) && not (code == w)) }
-{
-    (q != p) & (code != w)
-}
-
-// All stations but p and those whose code is w.
-fn left_out(row: &[u16; 16], n: u8, p: u8, w: u16) -> u16
-    requires { n ≤ 16 }
-    ensures { result ≡ mask_of n (left_out row.now p w) }
-{
-    let mut set = 0;
-    for q in 0..n {
-        if is_left_out(p, w, q, row[q as usize]) {
-            set = with(set, q);
-        }
+    // All stations but p and those whose code is w.
+    fn left_out(&self, row: &[Option<u16>; 16], w: u16) -> u16
+        ensures { result ≡ mask_of (Q.Rule.stations self.now.rule.now) (left_out row.now self.now.p w) }
+    {
+        set_of(self.rule, |q| q != self.p && row[usize::from(q)] != Some(w))
     }
-    set
-}
 
-// Whether w is a word and all but p and those whose code is w can fail.
-fn passes<Q: Rule, K: WordKind>(rule: &Q, row: &[u16; 16], n: u8, p: u8, w: u16) -> bool
-    requires { n ≤ 16 }
-    ensures { result ≡ (is_word K.WordKind.word w && Q.Rule.fails rule.now (mask_of n (left_out row.now p w))) }
-{
-    is_word::<K>(w) & rule.can_fail(left_out(row, n, p, w))
-}
-
-// The lower of the best word so far and w, if w passes.
-fn lower<Q: Rule, K: WordKind>(rule: &Q, row: &[u16; 16], n: u8, p: u8, best: u16, w: u16) -> u16
-    requires { n ≤ 16 }
-    ensures { result ≡ (if nat_lt w best then (if is_word K.WordKind.word w && Q.Rule.fails rule.now (mask_of n (left_out row.now p w)) then w else best) else best) }
-{
-    if w >= best {
-        return best;
+    // The smallest word under which all but p and those that are unanimous on the word can fail, if there is one.
+    fn weak_word<K: WordKind>(&self) -> Option<u16>
+        ensures { (d : ℕ) → unwrap_or result d ≡ smallest 4096 (weak_tried (rule_of Q.Rule self.now.rule.now) (votes_on self.now.votes.now) self.now.p (is_word K.WordKind.word)) d }
+    {
+        let row = by_station(self.rule, None, |q| self.row_code(q));
+        lowest(
+            self.rule,
+            None,
+            |q| row[usize::from(q)],
+            |w| is_word::<K>(w) && self.rule.can_fail(self.left_out(&row, w)),
+        )
     }
-    if passes::<Q, K>(rule, row, n, p, w) {
-        w
-    } else {
-        best
-    }
-}
-
-// What p holds after a weak round.
-fn weak_code<Q: Rule, K: WordKind>(rule: &Q, sheet: &[u16], n: u8, p: u8) -> u16
-    requires { (4096 ≤ length sheet.now) × (n ≤ 16) × (n ≡ Q.Rule.stations rule.now) × (p < n) }
-    ensures { result ≡ weak_held (rule_of Q.Rule rule.now) (is_word K.WordKind.word) (votes_on sheet.now) p }
-{
-    let row = row_codes(sheet, n, p);
-    let mut best = VOID;
-    for q in 0..n {
-        best = lower::<Q, K>(rule, &row, n, p, best, row[q as usize]);
-    }
-    best
 }
 
 // What all stations hold after it.
-pub(crate) fn weak_codes<Q: Rule, K: WordKind>(rule: &Q, sheet: &[u16], n: u8) -> [u16; 16]
-    requires { (4096 ≤ length sheet.now) × (n ≤ 16) × (n ≡ Q.Rule.stations rule.now) }
-    ensures { result ≡ sixteen n (weak_held (rule_of Q.Rule rule.now) (is_word K.WordKind.word) (votes_on sheet.now)) }
+pub(crate) fn weak_codes<Q: Rule, K: WordKind>(rule: &Q, votes: &Votes) -> [u16; 16]
+    ensures { result ≡ sixteen (Q.Rule.stations rule.now) (weak_held (rule_of Q.Rule rule.now) (is_word K.WordKind.word) (votes_on votes.now)) }
 {
-    let mut held = [VOID; 16];
-    for p in 0..n {
-        held[p as usize] = weak_code::<Q, K>(rule, sheet, n, p);
-    }
-    held
+    by_station(
+        rule,
+        VOID,
+        |p| View { rule, votes, p }.weak_word::<K>().unwrap_or(VOID),
+    )
 }
 
 // What all stations hold after a weak round with the votes on the sheet, or a refusal where the sheet is too short.
 pub fn weak<Q: Rule, K: WordKind>(rule: &Q, sheet: &[u16]) -> Result<[u16; 16], Refusal>
     ensures { result ≡ fitting sheet.now (sixteen (Q.Rule.stations rule.now) (weak_held (rule_of Q.Rule rule.now) (is_word K.WordKind.word) (votes_on sheet.now))) }
 {
-    if is_short(sheet.len()) {
-        return Err(Refusal::SheetTooShort);
-    }
-    Ok(weak_codes::<Q, K>(rule, sheet, rule.n()))
+    let votes = sheet.first_chunk().ok_or(Refusal::SheetTooShort)?;
+    Ok(weak_codes::<Q, K>(rule, votes))
 }

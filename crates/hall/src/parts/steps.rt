@@ -174,7 +174,7 @@ impl<R: Rig, Q: Rule, K: WordKind> Hall<R, Q, K> {
             held: self.state.held,
             lamps: self.state.lamps,
         };
-        let kind = RoundKind::of(start.round);
+        let kind = RoundKind::from(start.round);
         let Outcome { held, lamps } = run(&self.rig, &self.rule, self.rest, kind, &start, sheet)?;
         self.state = State {
             stage: stage_after(&start, kings),

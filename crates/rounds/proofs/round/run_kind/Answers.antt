@@ -3,7 +3,7 @@ use Rattle.sets.specs.Sets.{has}
 use Rattle.words.specs.Kinds.{is_word}
 use Rattle.agreement.specs.declared.stage.RoundKind.{RoundKind}
 use Rattle.agreement.specs.Made.{rule_of, rig_of}
-use Rattle.agreement.specs.Rounds.{king_held, weak_held}
+use Rattle.agreement.specs.Rounds.{king_held}
 use Rattle.agreement.specs.Sheets.{sixteen, vote_sheet, round_sheet}
 use Rattle.rounds.specs.Settings.{setting_from}
 use Rattle.rounds.specs.Sheets.{votes_on}
@@ -19,7 +19,7 @@ returns-in-Caller g c =
     let R = rule_of g.Q.Rule c.args.rule.now in
     let e = setting_from (rig_of g.R.Wire g.R.Rig c.args.rig.now) (is_word g.K.WordKind.word) c.args.start.now in
     let leaves : RoundKind → Outcome = λ k. outcome_of k R e (g.K.WordKind.code c.args.rest) c.args.start.now.caller c.args.start.now.lamps in
-    let writes : RoundKind → List ℕ = λ k. round_sheet k R.n e c.args.sheet.now in
+    let writes : RoundKind → List ℕ = λ k. round_sheet k R.n e c.args.votes.now in
     record {
       value = after_caller R e (g.K.WordKind.code c.args.rest) c.args.start.now.caller c.args.start.now.lamps c.caller_round-held.result (c.caller_round-held.ensures (g.R.Rig.heard c.args.rig.now))
           ∙ ap leaves (sym c.in-Caller.is);
@@ -34,7 +34,7 @@ returns-in-King g c =
     let start = c.args.start.now in
     let rest = g.K.WordKind.code c.args.rest in
     let leaves : RoundKind → Outcome = λ k. outcome_of k R e (g.K.WordKind.code c.args.rest) c.args.start.now.caller c.args.start.now.lamps in
-    let writes : RoundKind → List ℕ = λ k. round_sheet k R.n e c.args.sheet.now in
+    let writes : RoundKind → List ℕ = λ k. round_sheet k R.n e c.args.votes.now in
     record {
       value = after-king R e rest start.caller start.lamps c.in-King.number c.king_round-held.result
           (c.king_round-held.ensures (g.R.Rig.heard c.args.rig.now) ∙ ap (λ (k : ℕ). sixteen R.n (king_held e rest (has start.lamps) k)) c.king_of.ensures)
@@ -48,14 +48,13 @@ returns-in-Weak g c =
     let rule = c.args.rule.now in
     let R = rule_of g.Q.Rule rule in
     let e = setting_from (rig_of g.R.Wire g.R.Rig c.args.rig.now) (is_word g.K.WordKind.word) c.args.start.now in
-    let old = c.args.sheet.now in
-    let sheet = c.vote_all.new.sheet in
-    let voted : sheet ≡ vote_sheet R.n e old = c.vote_all.ensures ∙ ap (λ (n : ℕ). vote_sheet n e old) c.n-n.ensures in
+    let old = c.args.votes.now in
+    let sheet = c.vote.new.votes in
+    let voted : sheet ≡ vote_sheet R.n e old = c.vote.ensures in
     let leaves : RoundKind → Outcome = λ k. outcome_of k R e (g.K.WordKind.code c.args.rest) c.args.start.now.caller c.args.start.now.lamps in
-    let writes : RoundKind → List ℕ = λ k. round_sheet k R.n e c.args.sheet.now in
+    let writes : RoundKind → List ℕ = λ k. round_sheet k R.n e c.args.votes.now in
     record {
-      value = after-weak R e (g.K.WordKind.code c.args.rest) c.args.start.now.caller c.args.start.now.lamps (g.met.Q.Rule.sized rule).1 old sheet voted c.weak_codes-held.result
-          (c.weak_codes-held.ensures ∙ ap (λ (n : ℕ). sixteen n (weak_held R e.words (votes_on sheet))) c.n-n.ensures)
+      value = after-weak R e (g.K.WordKind.code c.args.rest) c.args.start.now.caller c.args.start.now.lamps (g.met.Q.Rule.sized rule).1 old sheet voted c.weak_codes-held.result c.weak_codes-held.ensures
           ∙ ap leaves (sym c.in-Weak.is);
       after = voted ∙ ap writes (sym c.in-Weak.is);
     }
@@ -66,11 +65,11 @@ returns-in-Graded g c =
     let rule = c.args.rule.now in
     let R = rule_of g.Q.Rule rule in
     let e = setting_from (rig_of g.R.Wire g.R.Rig c.args.rig.now) (is_word g.K.WordKind.word) c.args.start.now in
-    let old = c.args.sheet.now in
-    let sheet = c.vote_all-in-Graded.new.sheet in
-    let voted : sheet ≡ vote_sheet R.n e old = c.vote_all-in-Graded.ensures ∙ ap (λ (n : ℕ). vote_sheet n e old) c.n-n.ensures in
+    let old = c.args.votes.now in
+    let sheet = c.vote-in-Graded.new.votes in
+    let voted : sheet ≡ vote_sheet R.n e old = c.vote-in-Graded.ensures in
     let leaves : RoundKind → Outcome = λ k. outcome_of k R e (g.K.WordKind.code c.args.rest) c.args.start.now.caller c.args.start.now.lamps in
-    let writes : RoundKind → List ℕ = λ k. round_sheet k R.n e c.args.sheet.now in
+    let writes : RoundKind → List ℕ = λ k. round_sheet k R.n e c.args.votes.now in
     record {
       value = c.grade.ensures ∙ ap (λ (rest : ℕ). graded_by R e.words rest (votes_on sheet)) c.encode.ensures
           ∙ after-graded R e (g.K.WordKind.code c.args.rest) c.args.start.now.caller c.args.start.now.lamps (g.met.Q.Rule.sized rule).1 old sheet voted

@@ -1,25 +1,14 @@
-use Rattle.std.proofs.Common.{◌<◌, length, ◌∙◌, arith}
-use Rattle.std.proofs.lemmas.List.Edits.{fill_by_more}
-use Rattle.std.proofs.lemmas.List.{drop-set-lt, length-set}
+use Rattle.std.proofs.Common.{rules}
 use Rattle.words.specs.Kinds.{is_word}
 use Rattle.agreement.specs.Made.{rule_of}
 use Rattle.agreement.specs.Rounds.{weak_held}
 use Rattle.rounds.specs.Sheets.{votes_on}
-use Rattle.rounds.proofs.Fills.{sixteen_from}
+use Rattle.rounds.proofs.Fills.{sixteen_is}
 use Rattle.rounds.proofs.weak.weak_codes.Goals as goal
 
-pub loop-p-preserved : goal.loop-p-preserved
-loop-p-preserved g c =
-    let f = weak_held (rule_of g.Q.Rule c.args.rule.now) (is_word g.K.WordKind.word) (votes_on c.args.sheet.now) in
-    let s = c.loop-p.held in
-    let k = c.loop-p.p in
-    let h : k < length s = omega arith in (
-      λ j lt. rw c.weak_code.ensures (fill_by_more f s k 0 h c.loop-p.invariant.0 j lt),
-      drop-set-lt c.args.n s k _ (omega arith) ∙ c.loop-p.invariant.1,
-      length-set s k _ ∙ c.loop-p.invariant.2,
-    )
-
 pub returns : goal.returns
+unfolding weak_held
 returns g c =
-    let f = weak_held (rule_of g.Q.Rule c.args.rule.now) (is_word g.K.WordKind.word) (votes_on c.args.sheet.now) in
-    sixteen_from f c.args.n _ (omega arith) (λ k lt. c.loop-p.invariant.0 k (omega arith)) c.loop-p.invariant.1
+    let rule = c.args.rule.now in
+    let f = weak_held (rule_of g.Q.Rule rule) (is_word g.K.WordKind.word) (votes_on c.args.votes.now) in
+    sixteen_is f _ _ (g.met.Q.Rule.sized rule).1 (c.by_station.ensures f (λ p x low post. search rules))

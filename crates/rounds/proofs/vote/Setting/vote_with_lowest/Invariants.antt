@@ -1,0 +1,12 @@
+use Rattle.words.specs.Kinds.{is_word}
+use Rattle.agreement.specs.Made.{rig_of}
+use Rattle.agreement.specs.Sheets.{vote_entry}
+use Rattle.rounds.specs.Settings.{setting_from}
+use Rattle.rounds.specs.Sheets.{with_lowest, mid, Wrote}
+use Rattle.rounds.proofs.Writes.{before}
+use Rattle.rounds.proofs.vote.Setting.vote_with_lowest.Given as goal
+
+abbrev pub invariant-loop-b : goal.invariant-loop-b
+invariant-loop-b g l =
+    let n = g.Q.Rule.stations l.self.rule.now in
+    Wrote (before (with_lowest n l.a) mid l.b) (vote_entry n (setting_from (rig_of g.R.Wire g.R.Rig l.self.rig.now) (is_word g.K.WordKind.word) l.self.start.now)) l.votes l.initial.votes
