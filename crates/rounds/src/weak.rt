@@ -75,17 +75,21 @@ impl<'a, Q: Rule> View<'a, Q> {
             |w| is_word::<K>(w) && self.rule.can_fail(self.left_out(&row, w)),
         )
     }
+
+    // What p holds after the round: that word, or void.
+    #[tactic(auto, unfolding(agreement::specs::Rounds::weak_held))]
+    fn weak_code<K: WordKind>(&self) -> u16
+        ensures { result ≡ weak_held (rule_of Q.Rule self.now.rule.now) (is_word K.WordKind.word) (votes_on self.now.votes.now) self.now.p }
+    {
+        self.weak_word::<K>().unwrap_or(VOID)
+    }
 }
 
 // What all stations hold after it.
 pub(crate) fn weak_codes<Q: Rule, K: WordKind>(rule: &Q, votes: &Votes) -> [u16; 16]
     ensures { result ≡ sixteen (Q.Rule.stations rule.now) (weak_held (rule_of Q.Rule rule.now) (is_word K.WordKind.word) (votes_on votes.now)) }
 {
-    by_station(
-        rule,
-        VOID,
-        |p| View { rule, votes, p }.weak_word::<K>().unwrap_or(VOID),
-    )
+    by_station(rule, VOID, |p| View { rule, votes, p }.weak_code::<K>())
 }
 
 // What all stations hold after a weak round with the votes on the sheet, or a refusal where the sheet is too short.
