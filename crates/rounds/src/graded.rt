@@ -20,17 +20,22 @@ use rules::Rule;
 use words::{WordKind, is_word};
 
 impl<'a, Q: Rule> View<'a, Q> {
+    // Whether r is q, or another station than p with v(p,q,r) equal to w.
+    fn backs(&self, w: u16, q: u8, r: u8) -> bool
+        ensures { result ≡ backs (votes_on self.now.votes.now) self.now.p w q r }
+    {
+        r == q || (r != self.p && self.vote(q, r) == w)
+    }
+
     // q together with all r whose v(p,q,r) is w.
     fn backing(&self, w: u16, q: u8) -> u16
         ensures { result ≡ mask_of (Q.Rule.stations self.now.rule.now) (backs (votes_on self.now.votes.now) self.now.p w q) }
     {
-        set_of(
-            self.rule,
-            |r| r == q || (r != self.p && self.vote(q, r) == w),
-        )
+        set_of(self.rule, |r| self.backs(w, q, r))
     }
 
     // Whether w is a word and q is in Y(w).
+    #[tactic(auto, unfolding(agreement::specs::Rounds::in_y, agreement::specs::Rounds::fails))]
     fn is_backed<K: WordKind>(&self, w: u16, q: u8) -> bool
         ensures { result ≡ (is_word K.WordKind.word w && in_y (rule_of Q.Rule self.now.rule.now) (votes_on self.now.votes.now) self.now.p w q) }
     {
@@ -53,14 +58,29 @@ impl<'a, Q: Rule> View<'a, Q> {
         best
     }
 
+    // What p holds after the round: that word, or the rest word.
+    fn graded_code<K: WordKind>(&self, rest: u16) -> u16
+        ensures { result ≡ graded_held (rule_of Q.Rule self.now.rule.now) (is_word K.WordKind.word) rest (votes_on self.now.votes.now) self.now.p }
+    {
+        self.graded_word::<K>().unwrap_or(rest)
+    }
+
+    // Whether q is p, or v(p,q,r) is w for every other r.
+    fn is_sure(&self, w: u16, q: u8) -> bool
+        ensures { result ≡ sure (Q.Rule.stations self.now.rule.now) (votes_on self.now.votes.now) self.now.p w q }
+    {
+        q == self.p || self.is_unanimous(w, q)
+    }
+
     // p together with the q whose v(p,q,r) is w for every other r.
     fn sure(&self, w: u16) -> u16
         ensures { result ≡ mask_of (Q.Rule.stations self.now.rule.now) (sure (Q.Rule.stations self.now.rule.now) (votes_on self.now.votes.now) self.now.p w) }
     {
-        set_of(self.rule, |q| q == self.p || self.is_unanimous(w, q))
+        set_of(self.rule, |q| self.is_sure(w, q))
     }
 
     // Whether the lamp of p, which holds w, is lit.
+    #[tactic(auto, unfolding(agreement::specs::Rounds::graded_lit, agreement::specs::Rounds::fails))]
     fn is_lit(&self, w: u16) -> bool
         ensures { result ≡ graded_lit (rule_of Q.Rule self.now.rule.now) (votes_on self.now.votes.now) self.now.p w }
     {
@@ -75,7 +95,7 @@ pub(crate) fn grade<Q: Rule, K: WordKind>(rule: &Q, rest: u16, votes: &Votes) ->
     let held = by_station(
         rule,
         VOID,
-        |p| View { rule, votes, p }.graded_word::<K>().unwrap_or(rest),
+        |p| View { rule, votes, p }.graded_code::<K>(rest),
     );
     let lamps = set_of(
         rule,

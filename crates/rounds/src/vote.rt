@@ -93,6 +93,7 @@ impl<'a, R: Rig, Q: Rule> Setting<'a, R, Q> {
     }
 
     // Writes what each of the three has of their trio.
+    #[tactic(auto, unfolding(crate::specs::Votes::votes_of))]
     fn put_trio<K: WordKind>(&self, trio: Trio, votes: &mut Votes)
         ensures { votes.new ≡ put_trio votes.old trio.a trio.b trio.c (vote_in (setting_from (rig_of R.Wire R.Rig.own self.now.rig.now) (is_word K.WordKind.word) self.now.start.now) trio.a trio.b trio.c) }
     {

@@ -8,7 +8,7 @@ ghost use Rattle.agreement.specs.Made.{rule_of};
 ghost use Rattle.agreement.specs.Rounds.{unanimous, weak_held};
 ghost use Rattle.agreement.specs.Sheets.{sixteen};
 ghost use Rattle.rounds.specs.Sheets.{votes_on, fitting};
-ghost use Rattle.rounds.specs.Tallies.{third_of, row_code, left_out, weak_tried};
+ghost use Rattle.rounds.specs.Tallies.{third_of, row_code, is_code, left_out, weak_tried};
 
 use crate::search::lowest;
 use crate::sheet::Votes;
@@ -41,6 +41,7 @@ impl<'a, Q: Rule> View<'a, Q> {
     }
 
     // The code w with q in X(w), if there is one.
+    #[tactic(auto, unfolding(crate::specs::Tallies::row_code))]
     fn row_code(&self, q: u8) -> Option<u16>
         ensures { result ≡ row_code (Q.Rule.stations self.now.rule.now) (votes_on self.now.votes.now) self.now.p q }
     {
@@ -48,11 +49,18 @@ impl<'a, Q: Rule> View<'a, Q> {
         self.is_in_x(w, q).then_some(w)
     }
 
+    // Whether q is another station than p, and its code another than w.
+    fn is_left_out(&self, w: u16, q: u8, code: Option<u16>) -> bool
+        ensures { result ≡ (not (q == self.now.p) && not (is_code code w)) }
+    {
+        q != self.p && code != Some(w)
+    }
+
     // All stations but p and those whose code is w.
     fn left_out(&self, row: &[Option<u16>; 16], w: u16) -> u16
         ensures { result ≡ mask_of (Q.Rule.stations self.now.rule.now) (left_out row.now self.now.p w) }
     {
-        set_of(self.rule, |q| q != self.p && row[usize::from(q)] != Some(w))
+        set_of(self.rule, |q| self.is_left_out(w, q, row[usize::from(q)]))
     }
 
     // The smallest word under which all but p and those that are unanimous on the word can fail, if there is one.
@@ -67,17 +75,21 @@ impl<'a, Q: Rule> View<'a, Q> {
             |w| is_word::<K>(w) && self.rule.can_fail(self.left_out(&row, w)),
         )
     }
+
+    // What p holds after the round: that word, or void.
+    #[tactic(auto, unfolding(agreement::specs::Rounds::weak_held))]
+    fn weak_code<K: WordKind>(&self) -> u16
+        ensures { result ≡ weak_held (rule_of Q.Rule self.now.rule.now) (is_word K.WordKind.word) (votes_on self.now.votes.now) self.now.p }
+    {
+        self.weak_word::<K>().unwrap_or(VOID)
+    }
 }
 
 // What all stations hold after it.
 pub(crate) fn weak_codes<Q: Rule, K: WordKind>(rule: &Q, votes: &Votes) -> [u16; 16]
     ensures { result ≡ sixteen (Q.Rule.stations rule.now) (weak_held (rule_of Q.Rule rule.now) (is_word K.WordKind.word) (votes_on votes.now)) }
 {
-    by_station(
-        rule,
-        VOID,
-        |p| View { rule, votes, p }.weak_word::<K>().unwrap_or(VOID),
-    )
+    by_station(rule, VOID, |p| View { rule, votes, p }.weak_code::<K>())
 }
 
 // What all stations hold after a weak round with the votes on the sheet, or a refusal where the sheet is too short.

@@ -53,11 +53,12 @@ impl<'a, R: Wire> Sender<'a, R> {
             from: self.from,
             to: p,
         };
-        self.rig
-            .wire(key, self.start.code(self.from), self.start.broken)
+        let sent = self.start.code(self.from);
+        self.rig.wire(key, sent, self.start.broken)
     }
 
     // What p reads of it.
+    #[tactic(auto, unfolding(agreement::specs::Rounds::wired_to, agreement::specs::Rounds::wire_reading))]
     fn wired_to<K: WordKind>(&self, p: u8) -> u16
         ensures { (trio : Casts) → result ≡ wired_to (setting_from (lines (R.Wire.carried self.now.rig.now) trio) (is_word K.WordKind.word) self.now.start.now) self.now.rest self.now.from p }
     {

@@ -7,7 +7,6 @@ use Rattle.rounds.proofs.Fills.{sixteen_is}
 use Rattle.rounds.proofs.weak.weak_codes.Goals as goal
 
 pub returns : goal.returns
-unfolding weak_held
 returns g c =
     let rule = c.args.rule.now in
     let f = weak_held (rule_of g.Q.Rule rule) (is_word g.K.WordKind.word) (votes_on c.args.votes.now) in
