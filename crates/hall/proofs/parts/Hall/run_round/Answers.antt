@@ -10,5 +10,5 @@ returns g c =
     let on = c.in-Running in
     let x = model c.args.self.now in
     let ran = c.in_ok-held.ensures in
-    advance_is g.R.Wire g.R.Rig g.Q.Rule g.K.WordKind x on.take on.caller on.kings on.rounds c.args.sheet.now _ _ _ _ c.of-kind.ensures ran.value ran.after c.stage_after.ensures
+    advance_is g.R.Wire g.R.Rig g.Q.Rule g.K.WordKind x on.take on.caller on.kings on.rounds c.args.sheet.now _ _ _ _ c.from-kind.ensures ran.value ran.after c.stage_after.ensures
     ∙ ap (λ (s : Stage). rounding g.R.Wire g.R.Rig g.Q.Rule g.K.WordKind x s c.args.sheet.now) (sym on.is)
