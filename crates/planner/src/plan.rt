@@ -1,5 +1,5 @@
 // The plan of a rule: its largest sets that can fail, and the kings of each caller.
-ghost use Rattle.std.specs.Prelude.{◌≡◌, ℕ, IfOk, MatchResult, take};
+ghost use Rattle.std.specs.Prelude.{◌≡◌, ℕ, IfOk, MatchResult};
 ghost use Rattle.std.specs.Result.{result_ok};
 ghost use Rattle.rules.specs.Kings.{kings_of};
 ghost use Rattle.rules.specs.Count.{CountMade, count_fails};
@@ -103,7 +103,7 @@ fn count_rule(n: u16, t: u16) -> Result<CountRule, Unmade>
 
 // The group rule of n stations and these masks, or why they make none.
 fn group_rule(n: u16, masks: &[u16]) -> Result<GroupRule, Unmade>
-    ensures { MatchResult result (λ r. GroupMade n masks.now × (r.n ≡ n) × (take r.count r.masks ≡ masks.now)) (NotMade (GroupMade n masks.now) (GroupFlaw n masks.now)) }
+    ensures { MatchResult result (λ r. GroupMade n masks.now × (r.n ≡ n) × (r.masks.items ≡ masks.now)) (NotMade (GroupMade n masks.now) (GroupFlaw n masks.now)) }
 {
     let mut rule = GroupRule::new();
     match rule.make(n, masks) {

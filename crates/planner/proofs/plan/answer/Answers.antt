@@ -1,4 +1,4 @@
-use Rattle.std.proofs.Common.{◌≡◌, ℕ, List, take, Ok, Err, Result, MatchResult}
+use Rattle.std.proofs.Common.{◌≡◌, ℕ, List, Ok, Err, Result, MatchResult}
 use Rattle.std.proofs.lemmas.Result.{IfOk-weaker}
 use Rattle.rules.specs.declared.group.GroupRule.{GroupRule}
 use Rattle.rules.specs.Group.{GroupMade, group_fails}
@@ -9,8 +9,8 @@ use Rattle.planner.specs.Plans.{PlanOf, NotMade, GroupAnswer, Planned}
 use Rattle.planner.proofs.plan.answer.Goals as goal
 
 planned-group : (n : ℕ) (ms : List ℕ) (made : Result GroupRule Unmade) (o : Result Plan Unmade)
-    → MatchResult made (λ r. GroupMade n ms × (r.n ≡ n) × (take r.count r.masks ≡ ms)) (NotMade (GroupMade n ms) (GroupFlaw n ms))
-    → Planned (λ r. PlanOf r.n (group_fails r.n (take r.count r.masks))) made o
+    → MatchResult made (λ r. GroupMade n ms × (r.n ≡ n) × (r.masks.items ≡ ms)) (NotMade (GroupMade n ms) (GroupFlaw n ms))
+    → Planned (λ r. PlanOf r.n (group_fails r.n (r.masks.items))) made o
     → GroupAnswer n ms o
 planned-group n ms (Ok r) (Ok p) h k = (h.0, rw (← h.1, ← h.2) k)
 planned-group n ms (Ok r) (Err u) h k = absurd k
