@@ -7,5 +7,5 @@ invariant_of-result c = record {
   sized = (omega arith, omega arith);
   few = rw c.new.ensures (omega arith);
   below = rw c.new.ensures (λ k h. absurd (omega arith));
-  apart = rw c.new.ensures (no_masks_apart 3 (omega arith) (omega arith));
+  apart = rw c.new.ensures (no_masks_apart _ (omega arith) (omega arith));
 }
