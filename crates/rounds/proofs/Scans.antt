@@ -1,18 +1,30 @@
 -- Tests of all stations, and the set of those that pass a test.
-use Rattle.std.proofs.Common.{◌≡◌, ℕ, zero, suc, ◌+◌, ◌^◌, ◌<◌, Bool, true, false, cond, ◌&&◌, ◌||◌, eqb, refl, ap, ◌∙◌, ap₂, ⊎_elim, add-one, arith}
-use Rattle.std.proofs.lemmas.Bool.{and_from, and_left, and_right, cases_eq}
+use Rattle.std.proofs.Common.{◌≡◌, ℕ, zero, suc, ◌+◌, ◌^◌, ◌<◌, Bool, true, false, cond, ◌&&◌, ◌||◌, eqb, length, get_or, MatchBool, sym, refl, ap, subst, ◌∙◌, ap₂, ⊎_elim, zero-add, arith}
+use Rattle.std.specs.List.{range_with_len, AllWithin, HoldsAt}
+use Rattle.std.proofs.lemmas.List.FromFn.{get_or-range_with_len, length-range_with_len}
+use Rattle.std.proofs.lemmas.Bool.{and_left, and_right, cases_eq}
 use Rattle.sets.specs.Sets.{has, every, any, mask_of, smallest}
+use Rattle.sets.proofs.Tests.{every-decides}
 use Rattle.sets.proofs.Bounds.{mask_joins, mask_skips}
 
-pub every_more : (t : ℕ → Bool) (i : ℕ) → every i t ≡ true → t i ≡ true → every (i + 1) t ≡ true
-unfolding every
-every_more t i h k = rw add-one (and_from (t i) (every i t) k h)
+at : (n k : ℕ) → k < n → get_or (range_with_len 0 n) k 0 ≡ k
+at n k lt = get_or-range_with_len 0 n k 0 lt ∙ zero-add k
 
-pub every-not : (t : ℕ → Bool) (n i : ℕ) → i < n → t i ≡ false → every n t ≡ false
+every-not : (t : ℕ → Bool) (n i : ℕ) → i < n → t i ≡ false → every n t ≡ false
 unfolding every
 every-not t zero i lt h = absurd (omega arith)
 every-not t (suc n) i lt h =
     ⊎_elim (λ e. and_left (t n) (every n t) (rw e at h)) (λ ne. and_right (t n) (every n t) (every-not t n i (omega arith) h)) (cases_eq i n)
+
+-- what `all` finds over the stations below n
+pub every-from_all : (t : ℕ → Bool) (n : ℕ) (b : Bool)
+    → MatchBool b (AllWithin (λ r. t r ≡ true) (range_with_len 0 n) 0 (length (range_with_len 0 n))) ((k : ℕ) × (k < length (range_with_len 0 n)) × HoldsAt (λ r. t r ≡ false) (range_with_len 0 n) k)
+    → b ≡ every n t
+every-from_all t n true h =
+    sym ((every-decides t n).1 (λ k lt. subst (λ r. t r ≡ true) (at n k lt) (h k 0 (omega arith) (omega (arith, length-range_with_len 0 n)))))
+every-from_all t n false h =
+    let lt : h.0 < n = omega (arith, h.1, length-range_with_len 0 n) in
+    sym (every-not t n h.0 lt (subst (λ r. t r ≡ false) (at n h.0 lt) (h.2 0)))
 
 -- one turn of a loop that collects the stations that pass a test
 pub mask_in : (t : ℕ → Bool) (i m x : ℕ) → m ≡ mask_of i t → i < 16 → t i ≡ true → x ≡ mask_of 16 (λ j. has m j || eqb i j) → x ≡ mask_of (i + 1) t

@@ -34,11 +34,6 @@ impl<'a, Q: Rule> View<'a, Q> {
     pub(crate) fn is_unanimous(&self, w: u16, q: u8) -> bool
         ensures { result ≡ unanimous (Q.Rule.stations self.now.rule.now) (votes_on self.now.votes.now) self.now.p w q }
     {
-        for r in 0..self.rule.n() {
-            if !self.agrees(w, q, r) {
-                return false;
-            }
-        }
-        true
+        (0..self.rule.n()).all(|r| self.agrees(w, q, r))
     }
 }

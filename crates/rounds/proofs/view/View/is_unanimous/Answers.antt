@@ -1,23 +1,16 @@
-use Rattle.std.proofs.Common.{◌≡◌, sym, refl, arith}
+use Rattle.std.proofs.Common.{◌≡◌, ℕ, true, false, rules, refl, ap, ◌∙◌, arith}
+use Rattle.std.proofs.lemmas.Iterator.{cases_from_all, YieldsList-from_range}
 use Rattle.sets.specs.Sets.{every}
 use Rattle.agreement.specs.Rounds.{unanimous}
 use Rattle.rounds.specs.Sheets.{votes_on}
 use Rattle.rounds.specs.Tallies.{agrees}
-use Rattle.rounds.proofs.Scans.{every_more, every-not}
+use Rattle.rounds.proofs.Scans.{every-from_all}
 use Rattle.rounds.proofs.view.View.is_unanimous.Goals as goal
-
-pub loop-r-init : goal.loop-r-init
-unfolding every
-loop-r-init g c = refl
-
-pub loop-r-preserved : goal.loop-r-preserved
-loop-r-preserved g c = every_more (agrees (votes_on c.args.self.now.votes.now) c.args.self.now.p c.args.w c.args.q) c.loop-r.r c.loop-r.invariant (sym c.if-not-agrees.ensures)
-
-pub returns-then-not-agrees : goal.returns-then-not-agrees
-unfolding unanimous
-returns-then-not-agrees g c =
-    sym (every-not (agrees (votes_on c.args.self.now.votes.now) c.args.self.now.p c.args.w c.args.q) (g.Q.Rule.stations c.args.self.now.rule.now) c.loop-r.r (omega (arith, c.n-r-end.ensures)) (sym c.if-not-agrees.ensures))
 
 pub returns : goal.returns
 unfolding unanimous
-returns g c = let e : c.loop-r.r ≡ g.Q.Rule.stations c.args.self.now.rule.now = omega (arith, c.n-r-end.ensures) in sym (rw e at c.loop-r.invariant)
+returns g c =
+    let t = agrees (votes_on c.args.self.now.votes.now) c.args.self.now.p c.args.w c.args.q in
+    every-from_all t c.n.result c.all.result
+    (cases_from_all _ _ c.all.result (λ r. t r ≡ true) (λ r. t r ≡ false) c.all.ensures.ran (YieldsList-from_range 0 c.n.result c.n.result refl (omega arith)) (λ x q k. search rules) (λ x q k. search rules))
+    ∙ ap (λ (n : ℕ). every n t) c.n.ensures
