@@ -5,7 +5,7 @@ ghost use Rattle.calls_text.specs.Commands.{Fits};
 
 use hall::call::Call;
 use scan::scanner::Scanner;
-use settings::line::{end, number};
+use settings::line::end;
 
 // What a line asks for. Calls have codes in place of words, and a round has the number of its sheet's entries.
 #[derive(Clone, Copy)]
@@ -18,9 +18,9 @@ pub enum Command {
 // What an opening asks for.
 fn opening(scanner: &mut Scanner) -> Option<Call<u16>> {
     Some(Call::Open {
-        take: number(scanner, u16::MAX)?,
-        caller: number(scanner, u16::MAX)?,
-        word: number(scanner, u16::MAX)?,
+        take: scanner.short(u16::MAX)?,
+        caller: scanner.short(u16::MAX)?,
+        word: scanner.short(u16::MAX)?,
     })
 }
 
@@ -32,19 +32,19 @@ fn entries(scanner: &mut Scanner) -> Option<u16>
     if scanner.at_end() {
         return Some(4100);
     }
-    number(scanner, 8192)
+    scanner.short(8192)
 }
 
 // A call on one station.
 fn on_station(scanner: &mut Scanner) -> Option<Call<u16>> {
     if scanner.take_word(b"mark") {
-        number(scanner, u16::MAX).map(Call::Mark)
+        scanner.short(u16::MAX).map(Call::Mark)
     } else if scanner.take_word(b"clear") {
-        number(scanner, u16::MAX).map(Call::Clear)
+        scanner.short(u16::MAX).map(Call::Clear)
     } else if scanner.take_word(b"read") {
-        number(scanner, u16::MAX).map(Call::Read)
+        scanner.short(u16::MAX).map(Call::Read)
     } else if scanner.take_word(b"lamp") {
-        number(scanner, u16::MAX).map(Call::Lamp)
+        scanner.short(u16::MAX).map(Call::Lamp)
     } else {
         None
     }

@@ -61,13 +61,6 @@ impl From<SetFault> for Stop {
     }
 }
 
-// The number that stands next, 0 to 65,535.
-fn number(scanner: &mut Scanner, expected: Expected) -> Result<u16, Expected> {
-    scanner.skip_blanks();
-    let value = scanner.number(65535).ok_or(expected)?;
-    Ok(value as u16)
-}
-
 // The sets up to the end of the line.
 fn sets(heap: Global, scanner: &mut Scanner) -> Result<Vec<u16>, Stop> {
     let mut masks = Vec::new(heap);
@@ -81,8 +74,8 @@ fn sets(heap: Global, scanner: &mut Scanner) -> Result<Vec<u16>, Stop> {
 
 // The numbers of a count rule, up to the end of the line.
 fn count(scanner: &mut Scanner) -> Result<Request, Expected> {
-    let n = number(scanner, Expected::Stations)?;
-    let t = number(scanner, Expected::Broken)?;
+    let n = scanner.short(u16::MAX).ok_or(Expected::Stations)?;
+    let t = scanner.short(u16::MAX).ok_or(Expected::Broken)?;
     scanner.skip_blanks();
     if !scanner.at_end() {
         return Err(Expected::End);
@@ -96,7 +89,7 @@ pub fn request(heap: Global, scanner: &mut Scanner) -> Result<Request, Stop> {
         return Ok(count(scanner)?);
     }
     if scanner.take_word(b"group") {
-        let n = number(scanner, Expected::Stations)?;
+        let n = scanner.short(u16::MAX).ok_or(Expected::Stations)?;
         let masks = sets(heap, scanner)?;
         return Ok(Request::Group { n, masks });
     }

@@ -80,22 +80,13 @@ pub fn end(scanner: &mut Scanner) -> Result<(), Expected>
     }
 }
 
-// The number that stands next after blanks, 0 to `most`.
-pub fn number(scanner: &mut Scanner, most: u16) -> Option<u16>
-    ensures value { MatchOption result (scanner.old.at ≤ scanner.new.at) (λ v. (v ≤ most) × (scanner.old.at < scanner.new.at)) }
-    ensures same { scanner.new.text.now ≡ scanner.old.text.now }
-{
-    scanner.skip_blanks();
-    let value = scanner.number(u32::from(most))?;
-    Some(value as u16)
-}
-
 // The entries of a rig, up to the end of the line.
+// A loop of its own: one for all lists would ask of a closure that each item moves the scanner on.
 fn entries(heap: Global, scanner: &mut Scanner) -> Result<Vec<u16>, Stop> {
     let mut list = Vec::new(heap);
     scanner.skip_blanks();
     while !scanner.at_end() {
-        list.push(number(scanner, u16::MAX).ok_or(Expected::Entry)?)?;
+        list.push(scanner.short(u16::MAX).ok_or(Expected::Entry)?)?;
         scanner.skip_blanks();
     }
     Ok(list)
@@ -155,7 +146,7 @@ fn setting(heap: Global, scanner: &mut Scanner) -> Result<Option<Setting>, Stop>
     } else if scanner.take_word(b"words") {
         Setting::Words(kind(scanner)?)
     } else if scanner.take_word(b"rest") {
-        Setting::Rest(number(scanner, u16::MAX).ok_or(Expected::Code)?)
+        Setting::Rest(scanner.short(u16::MAX).ok_or(Expected::Code)?)
     } else if scanner.take_word(b"rig") {
         Setting::Rig(rig(heap, scanner)?)
     } else if scanner.take_word(b"patches") {

@@ -50,6 +50,16 @@ impl Scanner<'_> {
         }
     }
 
+    // The decimal number of at most `most` that stands next after blanks.
+    pub fn short(&mut self, most: u16) -> Option<u16>
+        ensures value { MatchOption result (self.old.at ≤ self.new.at) (λ v. (v ≤ most) × (self.old.at < self.new.at)) }
+        ensures same { self.new.text.now ≡ self.old.text.now }
+    {
+        self.skip_blanks();
+        let value = self.number(u32::from(most))?;
+        Some(value as u16)
+    }
+
     // The number of sixteen hexadecimal digits that stands next; else nothing is read.
     pub fn sixteen_digits(&mut self) -> Option<u64>
         ensures value { MatchOption result (self.new.at ≡ self.old.at) (λ v. (self.new.at ≡ self.old.at + 16) × (v ≡ numeral 16 self.old.text.now self.old.at 16)) }
