@@ -8,6 +8,7 @@ use Rattle.agreement.specs.Calls.{State, refusal, answer, reply, replied, word_a
 use Rattle.hall.specs.declared.call.Call.{Call}
 use Rattle.hall.specs.declared.call.Call.TheVariants.{Open, Round, Strike, Mark, Clear, Read, Lamp}
 use Rattle.hall.specs.Halls.{asked}
+use Rattle.play.specs.declared.reply.Told.{Told}
 use Rattle.play.specs.Plays.{told_of, reply_to}
 
 -- an answer is the one that the call has where it is not refused
@@ -29,6 +30,6 @@ told_is m code s (Clear p) sheet a e = rw (same_answer (refusal m s (asked (Clea
 told_is m code s (Read p) sheet a e = rw (same_answer (refusal m s (asked (Read p) sheet)) _ a e) (read_told code p _)
 told_is m code s (Lamp p) sheet a e = rw (same_answer (refusal m s (asked (Lamp p) sheet)) _ a e) refl
 
-pub replies : {K : Type 0} (m : Meaning K) (code : K → ℕ) (s : State) (c : Call K) (sheet : List ℕ) (a : Answer K) → Ok a ≡ reply m s (asked c sheet)
-    → Ok (told_of code c a) ≡ reply_to code c (reply m s (asked c sheet))
-replies m code s c sheet a e = told_is m code s c sheet a e ∙ ap (reply_to code c) e
+pub replies : {K : Type 0} (m : Meaning K) (code : K → ℕ) (s : State) (c : Call K) (sheet : List ℕ) (a : Answer K) (t : Told) → t ≡ told_of code c a → Ok a ≡ reply m s (asked c sheet)
+    → Ok t ≡ reply_to code c (reply m s (asked c sheet))
+replies m code s c sheet a t is e = ap Ok is ∙ told_is m code s c sheet a e ∙ ap (reply_to code c) e

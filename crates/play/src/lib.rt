@@ -38,6 +38,7 @@ fn told<K: WordKind>(call: Call<K>, answer: Answer<K>) -> Told
 }
 
 // Makes a call on the hall: what is replied.
+#[tactic(auto, using(crate::proofs::Telling::replies))]
 pub fn perform<R: Rig, Q: Rule, K: WordKind>(
     hall: &mut Hall<R, Q, K>,
     call: Call<K>,

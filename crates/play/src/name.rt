@@ -18,6 +18,22 @@ pub enum Name {
     Lamp,
 }
 
+// The call whose address this text is, or the refusal.
+fn by_text(address: &str) -> Result<Name, Refusal>
+    ensures { MatchResult result (λ c. address.now ≡ address_of c) (λ e. (e ≡ UnknownAddress) × ((c : Name) → address.now ≢ address_of c)) }
+{
+    match address {
+        "/hall/open" => Ok(Name::Open),
+        "/hall/round" => Ok(Name::Round),
+        "/hall/strike" => Ok(Name::Strike),
+        "/hall/mark" => Ok(Name::Mark),
+        "/hall/clear" => Ok(Name::Clear),
+        "/hall/read" => Ok(Name::Read),
+        "/hall/lamp" => Ok(Name::Lamp),
+        _ => Err(Refusal::UnknownAddress),
+    }
+}
+
 // The call whose address this is, or the refusal.
 impl TryFrom<&[u8]> for Name {
     type Error = Refusal;
@@ -25,15 +41,6 @@ impl TryFrom<&[u8]> for Name {
     ghost try_from_gives = { λ address r. MatchResult r (λ c. address.now ≡ address_of c) (λ e. (e ≡ UnknownAddress) × ((c : Name) → address.now ≢ address_of c)) };
 
     fn try_from(address: &[u8]) -> Result<Name, Refusal> {
-        match std::str::from_utf8(address) {
-            Ok("/hall/open") => Ok(Name::Open),
-            Ok("/hall/round") => Ok(Name::Round),
-            Ok("/hall/strike") => Ok(Name::Strike),
-            Ok("/hall/mark") => Ok(Name::Mark),
-            Ok("/hall/clear") => Ok(Name::Clear),
-            Ok("/hall/read") => Ok(Name::Read),
-            Ok("/hall/lamp") => Ok(Name::Lamp),
-            _ => Err(Refusal::UnknownAddress),
-        }
+        std::str::from_utf8(address).map_or(Err(Refusal::UnknownAddress), by_text)
     }
 }

@@ -1,7 +1,6 @@
-use Rattle.std.proofs.Common.{◌≡◌, ℕ, ◌<◌, Bool, true, ◌&&◌, ltb, List, [], ◌∷◌, IsUtf8, IsAscii, sym, refl, subst}
+use Rattle.std.proofs.Common.{◌≡◌, ℕ, ◌<◌, Bool, true, ◌&&◌, ltb, List, [], ◌∷◌, Ok, Err, Result, MatchResult, IsUtf8, IsAscii, sym, refl, subst}
 use Rattle.std.proofs.ByRecursion.{IsAscii-from_all, Decides-by_and}
 use Rattle.std.proofs.lemmas.Str.{IsUtf8-from_ascii}
-use Rattle.std.proofs.lemmas.Result.{MatchResult-at_err}
 use Rattle.std.proofs.lemmas.Bool.Decides.{Decides-ltb}
 use Rattle.play.specs.declared.name.Name.{Name}
 use Rattle.play.specs.declared.name.Name.TheVariants.{Open, Round, Strike, Mark, Clear, Read, Lamp}
@@ -24,7 +23,10 @@ plain Clear = low_ascii (address_of Clear) refl
 plain Read = low_ascii (address_of Read) refl
 plain Lamp = low_ascii (address_of Lamp) refl
 
-pub returns-in_default-2 : goal.returns-in_default-2
-returns-in_default-2 c =
-    let bad = (MatchResult-at_err _ _ _ c.in_default.is c.from_utf8.ensures.cases).0 in
-    (refl, λ k e. bad (subst IsUtf8 (sym e) (IsUtf8-from_ascii (address_of k) (plain k))))
+either : {T E : Type 0} {P P' : T → Type 0} {Q Q' : E → Type 0} {G : Type 0} (r : Result T E) → MatchResult r P Q → MatchResult r P' Q' → ((x : T) → P x → P' x → G) → ((e : E) → Q e → Q' e → G) → G
+either (Ok x) h k f g = f x h k
+either (Err e) h k f g = g e h k
+
+pub returns : goal.returns
+returns c =
+    either c.from_utf8.result c.from_utf8.ensures.cases c.map_or.ensures (λ x p q. rw (sym p.0) q) (λ e p is. rw is (refl, λ k at. p.0 (subst IsUtf8 (sym at) (IsUtf8-from_ascii (address_of k) (plain k)))))
