@@ -54,7 +54,7 @@ def facts():
     return [f'{c}: {f}: {len(s)} functions' for (c, f), s in sorted(seen.items()) if len(s) >= 3]
 
 
-def companies():
+def pairs():
     """Pairs of parameters that stand side by side in four functions or more of a crate."""
     seen = collections.defaultdict(set)
     for path, name, parameters, _ in functions():
@@ -95,7 +95,7 @@ def found():
         '4a casts': having(r' as (u8|u16|u32|u64|u128|usize|i32|i64)\b'),
         '4b conversions by arithmetic or by hand': having(r'/ 256|% 256|\* 256|256 \*|from_utf8|fn of\('),
         '5a facts asked by three functions or more': facts(),
-        '5b parameters side by side in four functions or more': companies(),
+        '5b parameters side by side in four functions or more': pairs(),
         '6 arrays, counts and places': having(r'^\s*(pub )?(count|at|from|to|held|masks): (usize|\[u16; 16\])'),
         '7 a step chosen by a kind': having(r'match \(?(kind|call|self\.stage|name)\b'),
     }

@@ -29,6 +29,7 @@ pub enum RoundKind {
 pub enum Answer<K> {
     Done,
     Word(K),
+    // 1 or 0 by rule, as the number in a reply
     Lit(u16),
 }
 

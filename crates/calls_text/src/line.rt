@@ -28,14 +28,13 @@ fn opening(scanner: &mut Scanner) -> Option<Call<u16>> {
 fn entries(scanner: &mut Scanner) -> Option<u16>
     ensures { IfSome result (λ count. count ≤ 8192) }
 {
-    scanner.skip_blanks();
-    if scanner.at_end() {
+    if scanner.ends() {
         return Some(4100);
     }
     scanner.short(8192)
 }
 
-// A call on one station.
+// A call on one station. A chain of words and no table, which would hold functions.
 fn on_station(scanner: &mut Scanner) -> Option<Call<u16>> {
     if scanner.take_word(b"mark") {
         scanner.short(u16::MAX).map(Call::Mark)

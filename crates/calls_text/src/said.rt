@@ -6,7 +6,6 @@ use std::fmt;
 // Nothing where the line is no making and no call; else what came of it. A round has the digest of its sheet.
 #[derive(Drop)]
 pub enum Said {
-    Nothing,
     Made(Result<(), Refusal>),
     Answered(Result<Answer<u16>, Refusal>),
     Rounded(Result<Answer<u16>, Refusal>, u32),
@@ -35,7 +34,6 @@ fn write_answer<W: fmt::Write>(
 impl fmt::Display for Said {
     fn fmt<W: fmt::Write>(&self, f: &mut fmt::Formatter<W>) -> fmt::Result {
         match self {
-            Said::Nothing => Ok(()),
             Said::Made(Ok(_)) => f.write_str("made\n"),
             Said::Made(Err(refusal)) => {
                 write_refusal(f, refusal)?;

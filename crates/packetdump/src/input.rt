@@ -31,10 +31,9 @@ fn head_of(bytes: &[u8]) -> Result<Option<usize>, Ending>
 {
     match bytes {
         [] => Ok(None),
-        [a, b, c, d] => match packet_size([*a, *b, *c, *d]) {
-            Ok(n) => Ok(Some(n)),
-            Err(_) => Err(Ending::Size),
-        },
+        [a, b, c, d] => packet_size([*a, *b, *c, *d])
+            .map(Some)
+            .map_err(|_| Ending::Size),
         _ => Err(Ending::InSize),
     }
 }

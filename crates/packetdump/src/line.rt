@@ -27,7 +27,7 @@ fn is_marked(b: u8) -> bool
 fn is_itself(low: u8, b: u8) -> bool
     ensures { result ≡ itself low b }
 {
-    low <= b && b < 127
+    (low..127).contains(&b)
 }
 
 // A byte of a string; one below `low` is not shown as itself.

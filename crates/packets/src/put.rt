@@ -1,5 +1,5 @@
 // The parts of a message, each written at a place of the buffer that is long enough. The buffer
-// and the place are no struct: each function would owe one clause more, that it keeps the buffer.
+// and the place are no struct: each function would have one clause more, that it keeps the buffer.
 ghost use Rattle.std.specs.Prelude.{◌≡◌, ◌+◌, ◌^◌, ◌<◌, ◌≤◌, ◌∷◌, map, length, replicate};
 ghost use Rattle.std.specs.List.{flat_map};
 ghost use Rattle.packets.specs.Encode.{text_bytes, blob_bytes};
@@ -48,6 +48,7 @@ fn put_blob(out: &mut [u8], at: usize, b: &[u8]) -> usize
     ensures after { out.new ≡ over out.old at (blob_bytes b.now) }
     ensures end { result ≡ at + length (blob_bytes b.now) }
 {
+    // `as`, since the size is known to fit, and no `From` leads from usize to u32.
     let size = (b.len() as u32).to_be_bytes();
     let head = put(out, at, &size);
     let end = put(out, head, b);

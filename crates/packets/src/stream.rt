@@ -11,7 +11,7 @@ const MIN_PACKET: usize = 4;
 fn may_be_size(n: usize) -> bool
     ensures { Decides result (PacketSize n) }
 {
-    MIN_PACKET <= n && n <= MAX_PACKET && n % 4 == 0
+    (MIN_PACKET..=MAX_PACKET).contains(&n) && n % 4 == 0
 }
 
 // How many bytes the packet has that stands behind these four bytes of a stream.

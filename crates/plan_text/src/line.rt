@@ -3,32 +3,25 @@ use planner::plan::Request;
 use scan::scanner::Scanner;
 use scan::scanner::stations::SetFault;
 use std::alloc::{AllocFailed, Global};
-use std::fmt;
+use thiserror::Error;
 
 // What was expected where a line cannot be read.
-#[derive(Clone, Copy)]
+#[derive(Clone, Copy, Debug, Error)]
 pub enum Expected {
+    #[error("'count' or 'group'")]
     Rule,
+    #[error("the number of stations, 0 to 65535")]
     Stations,
+    #[error("the number that may be broken, 0 to 65535")]
     Broken,
+    #[error("a set such as {{0,1,2}}, or the end of the line")]
     Set,
+    #[error("a station, 0 to 15")]
     Station,
+    #[error("',' or '}}'")]
     CommaOrBrace,
+    #[error("the end of the line")]
     End,
-}
-
-impl fmt::Display for Expected {
-    fn fmt<W: fmt::Write>(&self, f: &mut fmt::Formatter<W>) -> fmt::Result {
-        match self {
-            Expected::Rule => f.write_str("'count' or 'group'"),
-            Expected::Stations => f.write_str("the number of stations, 0 to 65535"),
-            Expected::Broken => f.write_str("the number that may be broken, 0 to 65535"),
-            Expected::Set => f.write_str("a set such as {0,1,2}, or the end of the line"),
-            Expected::Station => f.write_str("a station, 0 to 15"),
-            Expected::CommaOrBrace => f.write_str("',' or '}'"),
-            Expected::End => f.write_str("the end of the line"),
-        }
-    }
 }
 
 // Why reading stops: the text is not as expected, or there is no memory.
@@ -64,10 +57,8 @@ impl From<SetFault> for Stop {
 // The sets up to the end of the line.
 fn sets(heap: Global, scanner: &mut Scanner) -> Result<Vec<u16>, Stop> {
     let mut masks = Vec::new(heap);
-    scanner.skip_blanks();
-    while !scanner.at_end() {
+    while !scanner.ends() {
         masks.push(scanner.set()?)?;
-        scanner.skip_blanks();
     }
     Ok(masks)
 }
@@ -76,14 +67,13 @@ fn sets(heap: Global, scanner: &mut Scanner) -> Result<Vec<u16>, Stop> {
 fn count(scanner: &mut Scanner) -> Result<Request, Expected> {
     let n = scanner.short(u16::MAX).ok_or(Expected::Stations)?;
     let t = scanner.short(u16::MAX).ok_or(Expected::Broken)?;
-    scanner.skip_blanks();
-    if !scanner.at_end() {
-        return Err(Expected::End);
-    }
-    Ok(Request::Count { n, t })
+    scanner
+        .ends()
+        .then_some(Request::Count { n, t })
+        .ok_or(Expected::End)
 }
 
-// The rule that stands next, up to the end of the line.
+// The rule that stands next, up to the end of the line. A chain of words and no table, since each is followed by a reading of its own.
 pub fn request(heap: Global, scanner: &mut Scanner) -> Result<Request, Stop> {
     if scanner.take_word(b"count") {
         return Ok(count(scanner)?);

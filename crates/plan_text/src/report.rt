@@ -45,8 +45,7 @@ pub fn on_line(heap: Global, line: u64, text: &[u8]) -> Result<Option<Report>, A
     ensures { IfOk result (Reported line) }
 {
     let mut scanner = Scanner::new(text);
-    scanner.skip_blanks();
-    if scanner.at_end() {
+    if scanner.ends() {
         return Ok(None);
     }
     let answer = match request(heap, &mut scanner) {

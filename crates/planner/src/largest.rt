@@ -10,7 +10,7 @@ use std::alloc::{AllocError, Global};
 fn may_join<R: Rule>(rule: &R, set: u16, i: u8) -> bool
     ensures { result ≡ may_join (R.Rule.fails rule.now) set i }
 {
-    !contains(set, i) & rule.can_fail(with(set, i))
+    !contains(set, i) && rule.can_fail(with(set, i))
 }
 
 // Whether the set is a largest one that can fail.

@@ -52,7 +52,7 @@ pub struct Plan {
     pub kings: Vec<Kings>,
 }
 
-// Why a rule is not made: its refusal, and the flaw that it is refused for.
+// Why a rule is not made: its refusal, and the flaw that it is refused for, as the rule answers it.
 #[derive(Clone, Copy)]
 pub struct Unmade {
     pub refusal: Refusal,
@@ -88,7 +88,7 @@ pub fn plan_of<R: Rule>(heap: Global, rule: &R) -> Result<Plan, AllocError>
     })
 }
 
-// The count rule of these numbers, or why they make none.
+// The count rule of these numbers, or why they make none. A match, which the check proves alone: `map_err` with a closure would want an answer.
 fn count_rule(n: u16, t: u16) -> Result<CountRule, Unmade>
     ensures { MatchResult result (λ r. CountMade n t × (r.n ≡ n) × (r.t ≡ t)) (NotMade (CountMade n t) (CountFlaw n t)) }
 {
@@ -101,7 +101,7 @@ fn count_rule(n: u16, t: u16) -> Result<CountRule, Unmade>
     }
 }
 
-// The group rule of n stations and these masks, or why they make none.
+// The group rule of n stations and these masks, or why they make none. Made in two steps, as the project prescribes, and by a match as above.
 fn group_rule(n: u16, masks: &[u16]) -> Result<GroupRule, Unmade>
     ensures { MatchResult result (λ r. GroupMade n masks.now × (r.n ≡ n) × (r.masks.items ≡ masks.now)) (NotMade (GroupMade n masks.now) (GroupFlaw n masks.now)) }
 {
@@ -116,6 +116,7 @@ fn group_rule(n: u16, masks: &[u16]) -> Result<GroupRule, Unmade>
 }
 
 // The plan of a rule that is made, or why it is not.
+// A Result in a Result: a refusal is an answer to a line, and `?` serves the want of memory alone.
 fn planned<R: Rule + Drop>(
     heap: Global,
     made: Result<R, Unmade>,

@@ -1,5 +1,6 @@
 // What goes back for a packet: a size and a message.
 ghost use Rattle.std.specs.Prelude.{◌≡◌, ℕ, ◌+◌, ◌<◌, ◌≤◌, List, [], ◌++◌, length, MatchResult, pos, nat_le};
+ghost use Rattle.packets.specs.declared.fields.Argument.TheVariants.{Number};
 ghost use Rattle.packets.specs.Osc.{word, Encoding};
 ghost use Rattle.packets.specs.Encode.{encode};
 ghost use Rattle.packets.specs.Write.{content_of, Placed};
@@ -13,6 +14,7 @@ use refusals::Refusal;
 pub enum Told {
     Done,
     Word { station: u16, code: u16 },
+    // 1 or 0 by rule, as the number in the reply
     Lamp { station: u16, lit: u16 },
 }
 
@@ -33,7 +35,7 @@ fn size_bytes(size: usize) -> [u8; 4]
 
 // A number as an argument to be written.
 fn number(x: u16) -> Entry
-    ensures { result ≡ Entry.Number (pos x) }
+    ensures { result ≡ Number (pos x) }
 {
     Entry::Number(x.into())
 }

@@ -22,7 +22,7 @@ impl Sounds for NoiseRig {
     }
 }
 
-// The wire and the trio line of script and noise stay two impls: one over `Sounds` would have to stand in `rigs`, which knows no kind of rig.
+// The wire and the trio line of script and noise stay two impls: one over `Sounds` would have to stand in `rigs`, where no kind of rig is defined.
 impl Wire for NoiseRig {
     ghost carried = { λ s. plain_wire (noise_sound s.seed) };
 

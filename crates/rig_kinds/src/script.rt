@@ -33,7 +33,7 @@ impl Sounds for ScriptRig {
     }
 }
 
-// The wire and the trio line of script and noise stay two impls: one over `Sounds` would have to stand in `rigs`, which knows no kind of rig.
+// The wire and the trio line of script and noise stay two impls: one over `Sounds` would have to stand in `rigs`, where no kind of rig is defined.
 impl Wire for ScriptRig {
     ghost carried = { λ s. plain_wire (script_sound s.list.items) };
 

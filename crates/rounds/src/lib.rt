@@ -3,6 +3,7 @@
 
 pub mod graded;
 pub mod outcome;
+mod reading;
 pub mod round;
 mod search;
 mod sheet;

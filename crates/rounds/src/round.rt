@@ -22,7 +22,7 @@ use rules::Rule;
 use words::WordKind;
 
 // King number j of a caller, counted from 1: the other stations in rising order.
-// Kings::king answers none above the number of kings, which a round is not told.
+// Said again in rules, inside its calls: one function for both would be a public call of rules more, for a line of code.
 fn king_of(caller: u8, j: u8) -> u8
     ensures { result ≡ king caller j }
 {

@@ -1,4 +1,5 @@
-// The search for the smallest word that passes a test, among the codes of a rule's stations.
+// The search for the smallest word that passes a test, among the codes of a rule's stations. A loop, since its closures are called for
+// the stations of the rule alone.
 ghost use Rattle.std.specs.Prelude.{◌≡◌, ℕ, ◌<◌, ◌^◌, Bool, Option};
 ghost use Rattle.rounds.specs.Stations.{Says};
 ghost use Rattle.rounds.specs.Searches.{lower as lower_of, lowest as lowest_of};

@@ -1,6 +1,7 @@
 // What a round starts from.
 ghost use Rattle.std.specs.Prelude.{◌≡◌, slice_index};
 
+// Codes of sixteen stations are a fixed array by a rule of the project.
 // The cue's take and its caller, the round's number, the set of broken stations, the code that each station holds, and the set of the stations whose lamps are lit.
 #[derive(Clone, Copy)]
 pub struct Start {

@@ -1,4 +1,5 @@
-// What is made of the stations of a rule, one after another.
+// What is made of the stations of a rule, one after another. Loops, since a closure that an iterator calls has to take any number,
+// and these are called for the stations of the rule alone.
 ghost use Rattle.std.specs.Prelude.{◌≡◌, ℕ, ◌<◌, Bool};
 ghost use Rattle.sets.specs.Sets.{mask_of};
 ghost use Rattle.rounds.specs.Stations.{Says, Sixteen};

@@ -9,6 +9,7 @@ ghost use Rattle.rounds.specs.Settings.{setting_from};
 ghost use Rattle.rounds.specs.Votes.{readings_of, votes_of};
 ghost use Rattle.rounds.specs.Sheets.{put_vote, put_trio, with_pair, with_lowest, Wrote, fitting};
 
+use crate::reading::read_code;
 use crate::sheet::{Votes, entry};
 use crate::start::Start;
 use crate::trio::Trio;
@@ -16,20 +17,13 @@ use refusals::Refusal;
 use rigs::keys::TrioKey;
 use rigs::{Rig, VOID};
 use rules::Rule;
-use words::{WordKind, is_word};
-
-// A code from a trio line, read as void unless it is a word's.
-fn read_line<K: WordKind>(code: u16) -> u16
-    ensures { result ≡ (if is_word K.WordKind.word code then code else void) }
-{
-    if is_word::<K>(code) { code } else { VOID }
-}
+use words::WordKind;
 
 // The code that at least two of three readings share, or void.
 fn shared(x: u16, y: u16, z: u16) -> u16
     ensures { result ≡ (if nat_eq x y || x == z then x else (if nat_eq y z then y else void)) }
 {
-    if (x == y) | (x == z) {
+    if x == y || x == z {
         x
     } else if y == z {
         y
@@ -72,9 +66,9 @@ impl<'a, R: Rig, Q: Rule> Setting<'a, R, Q> {
             .rig
             .trio(key, self.start.code(speaker), self.start.broken);
         (
-            read_line::<K>(heard.0),
-            read_line::<K>(heard.1),
-            read_line::<K>(heard.2),
+            read_code::<K>(VOID, heard.0),
+            read_code::<K>(VOID, heard.1),
+            read_code::<K>(VOID, heard.2),
         )
     }
 

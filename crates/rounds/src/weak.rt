@@ -23,9 +23,9 @@ use words::{WordKind, is_word};
 fn third(p: u8, q: u8) -> u8
     ensures { result ≡ third_of p q }
 {
-    if (p != 0) & (q != 0) {
+    if p != 0 && q != 0 {
         0
-    } else if (p != 1) & (q != 1) {
+    } else if p != 1 && q != 1 {
         1
     } else {
         2

@@ -7,23 +7,17 @@ ghost use Rattle.agreement.specs.Rounds.{wired_to, caller_held, king_held};
 ghost use Rattle.agreement.specs.Sheets.{sixteen};
 ghost use Rattle.rounds.specs.Settings.{lines, setting_from};
 
+use crate::reading::read_code;
 use crate::start::Start;
 use crate::stations::by_station;
 use rigs::keys::WireKey;
 use rigs::{VOID, Wire};
 use rules::Rule;
 use sets::contains;
-use words::{WordKind, is_word};
+use words::WordKind;
 
 // The set of no lamp.
 const NO_LAMP: u16 = 0;
-
-// A code from a wire, read as the fallback unless it is a word's.
-fn read_wire<K: WordKind>(fallback: u16, code: u16) -> u16
-    ensures { result ≡ (if is_word K.WordKind.word code then code else fallback) }
-{
-    if is_word::<K>(code) { code } else { fallback }
-}
 
 // The station `from` as it wires its code to the others: what is read where no word arrives, and the lamps that are lit.
 #[derive(Drop)]
@@ -62,7 +56,7 @@ impl<'a, R: Wire> Sender<'a, R> {
     fn wired_to<K: WordKind>(&self, p: u8) -> u16
         ensures { (trio : Casts) → result ≡ wired_to (setting_from (lines (R.Wire.carried self.now.rig.now) trio) (is_word K.WordKind.word) self.now.start.now) self.now.rest self.now.from p }
     {
-        read_wire::<K>(self.rest, self.arrives(p))
+        read_code::<K>(self.rest, self.arrives(p))
     }
 
     // What p holds after it.

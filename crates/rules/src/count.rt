@@ -55,7 +55,7 @@ impl CountRule {
 }
 
 // Whether the set has at most t members.
-fn is_few(set: u16, t: u8) -> bool
+pub(crate) fn is_few(set: u16, t: u8) -> bool
     ensures { result ≡ nat_le (members set) t }
 {
     size(set) <= t
@@ -81,6 +81,6 @@ impl Rule for CountRule {
     }
 
     fn can_fail(&self, set: u16) -> bool {
-        among(set, self.n) & is_few(set, self.t)
+        among(set, self.n) && is_few(set, self.t)
     }
 }

@@ -1,7 +1,6 @@
 // The group rule: a set can fail if it lies within one of the masks, or has at most one member.
-ghost use Rattle.std.specs.Prelude.{◌≡◌, ℕ, ◌≤◌, Bool, ◌&&◌, ◌||◌, List, [], length, MatchOption, MatchResult, nat_le};
+ghost use Rattle.std.specs.Prelude.{◌≡◌, ℕ, ◌≤◌, Bool, ◌&&◌, ◌||◌, List, [], length, MatchOption, MatchResult};
 ghost use Rattle.refusals.specs.declared.Refusal.TheVariants.{UnlawfulRule};
-ghost use Rattle.sets.specs.Sets.{members};
 ghost use Rattle.rules.specs.Rules.{Sized, Apart};
 ghost use Rattle.rules.specs.Flaws.{GroupFlaw};
 ghost use Rattle.rules.specs.Group.{lies, group_fails, Below, GroupMade};
@@ -9,11 +8,12 @@ ghost use Rattle.rules.specs.GroupLaws.{group-own, group-part, group-single};
 ghost use Rattle.std.proofs.Common.{rules, arith};
 
 use crate::Rule;
+use crate::count::is_few;
 use crate::flaw::Flaw;
 use crate::making::{Masks, station_count};
 use arrayvec::ArrayVec;
 use refusals::Refusal;
-use sets::{among, size, within};
+use sets::{among, within};
 
 // Up to 16 masks of stations that may be broken together.
 #[derive(Drop)]
@@ -46,6 +46,7 @@ impl GroupRule {
             masks,
         };
         let kept = ArrayVec::try_from(masks).map_err(|_| Flaw::ManyMasks)?;
+        // An Option and no Result, since the search answers a flaw where there is one.
         if let Some(flaw) = asked.flaw() {
             return Err(flaw);
         }
@@ -86,13 +87,6 @@ fn lies_within(masks: &[u16], set: u16) -> bool
     false
 }
 
-// Whether the set has at most one member.
-fn is_single(set: u16) -> bool
-    ensures { result ≡ nat_le (members set) 1 }
-{
-    size(set) <= 1
-}
-
 impl Rule for GroupRule {
     ghost stations = { λ r. r.n };
 
@@ -113,6 +107,6 @@ impl Rule for GroupRule {
     }
 
     fn can_fail(&self, set: u16) -> bool {
-        among(set, self.n) & (is_single(set) | lies_within(&self.masks, set))
+        among(set, self.n) && (is_few(set, 1) || lies_within(&self.masks, set))
     }
 }

@@ -1,5 +1,5 @@
 // Settings in lines of text.
-ghost use Rattle.std.specs.Prelude.{◌≡◌, ◌<◌, ◌≤◌, true, false, IfOk, OnOk, OnErr, MatchOption};
+ghost use Rattle.std.specs.Prelude.{◌≡◌, true, false, IfOk, OnOk, OnErr};
 ghost use Rattle.settings.specs.Lines.{Ended};
 ghost use Rattle.settings.specs.Makings.{OneSet};
 
@@ -7,36 +7,27 @@ use crate::making::{Floors, Kind, RigSetting, Setting, Settings};
 use plan_text::line as rule_line;
 use scan::scanner::Scanner;
 use std::alloc::{AllocFailed, Global};
-use std::fmt;
+use thiserror::Error;
 
 // What was expected where a setting cannot be read.
-#[derive(Clone, Copy)]
+#[derive(Clone, Copy, Debug, Error)]
 pub enum Expected {
+    #[error("{0}")]
     Rule(rule_line::Expected),
+    #[error("'gate' or 'scene'")]
     Words,
+    #[error("a code, 0 to 65535")]
     Code,
+    #[error("'script', 'noise' or 'torn'")]
     Rig,
+    #[error("an entry, 0 to 65535, or the end of the line")]
     Entry,
+    #[error("a seed, 0 to 4294967295")]
     Seed,
+    #[error("a patch of 16 hexadecimal digits, or the end of the line")]
     Patch,
+    #[error("the end of the line")]
     End,
-}
-
-impl fmt::Display for Expected {
-    fn fmt<W: fmt::Write>(&self, f: &mut fmt::Formatter<W>) -> fmt::Result {
-        match self {
-            Expected::Rule(expected) => write!(f, "{expected}"),
-            Expected::Words => f.write_str("'gate' or 'scene'"),
-            Expected::Code => f.write_str("a code, 0 to 65535"),
-            Expected::Rig => f.write_str("'script', 'noise' or 'torn'"),
-            Expected::Entry => f.write_str("an entry, 0 to 65535, or the end of the line"),
-            Expected::Seed => f.write_str("a seed, 0 to 4294967295"),
-            Expected::Patch => {
-                f.write_str("a patch of 16 hexadecimal digits, or the end of the line")
-            }
-            Expected::End => f.write_str("the end of the line"),
-        }
-    }
 }
 
 // Why reading stops: the text is not as expected, or there is no memory.
@@ -68,31 +59,24 @@ impl<T: Drop> From<AllocFailed<T>> for Stop {
     }
 }
 
-// Past the end of the line, or what was expected there.
+// Past the end of the line, or what was expected there, in the words of settings.
 pub fn end(scanner: &mut Scanner) -> Result<(), Expected>
     ensures { OnOk result (Ended scanner.new.text.now scanner.new.at) }
 {
-    scanner.skip_blanks();
-    if scanner.at_end() {
-        Ok(())
-    } else {
-        Err(Expected::End)
-    }
+    scanner.ends().then_some(()).ok_or(Expected::End)
 }
 
 // The entries of a rig, up to the end of the line.
 // A loop of its own: one for all lists would ask of a closure that each item moves the scanner on.
 fn entries(heap: Global, scanner: &mut Scanner) -> Result<Vec<u16>, Stop> {
     let mut list = Vec::new(heap);
-    scanner.skip_blanks();
-    while !scanner.at_end() {
+    while !scanner.ends() {
         list.push(scanner.short(u16::MAX).ok_or(Expected::Entry)?)?;
-        scanner.skip_blanks();
     }
     Ok(list)
 }
 
-// The rig that stands next.
+// The rig that stands next. A chain of words and no table, since each is followed by a reading of its own.
 fn rig(heap: Global, scanner: &mut Scanner) -> Result<RigSetting, Stop> {
     scanner.skip_blanks();
     if scanner.take_word(b"script") {
@@ -108,7 +92,7 @@ fn rig(heap: Global, scanner: &mut Scanner) -> Result<RigSetting, Stop> {
     }
 }
 
-// The kind of words that stands next.
+// The kind of words that stands next. A chain of words: a table would be searched by a loop, for two of them.
 fn kind(scanner: &mut Scanner) -> Result<Kind, Expected> {
     scanner.skip_blanks();
     if scanner.take_word(b"gate") {
@@ -122,8 +106,7 @@ fn kind(scanner: &mut Scanner) -> Result<Kind, Expected> {
 
 // The number of the patch that stands next, or none at the end of the line.
 fn patch(scanner: &mut Scanner) -> Result<Option<u64>, Expected> {
-    scanner.skip_blanks();
-    if scanner.at_end() {
+    if scanner.ends() {
         return Ok(None);
     }
     scanner.sixteen_digits().map(Some).ok_or(Expected::Patch)

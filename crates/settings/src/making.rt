@@ -121,7 +121,7 @@ pub fn word_of<K: WordKind>(code: u16) -> Result<K, Refusal>
     K::decode(code).ok_or(Refusal::NoWord)
 }
 
-// The group rule of n stations and these masks, refused where there is none.
+// The group rule of n stations and these masks, refused where there is none. Made in two steps, as the project prescribes.
 fn group_rule(n: u16, masks: &[u16]) -> Result<SomeRule, Refusal>
     ensures { MatchResult result (GroupOf n masks.now) (λ e. (e ≡ is_unlawful) × (GroupMade n masks.now → ⊥)) }
 {

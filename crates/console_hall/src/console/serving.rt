@@ -67,6 +67,7 @@ impl Console {
     ) -> Result<Reply, AllocError>
         ensures { MatchResult result (Answered packet.now (hall_in self.old) sheet.old (hall_in self.new) sheet.new) (λ _. (hall_in self.new ≡ hall_in self.old) × (sheet.new ≡ sheet.old)) }
     {
+        // A refusal is a reply here and no error, as above.
         match read_order(packet) {
             Ok(Order::Make(making)) => self.make(heap, making),
             Ok(Order::Call(call)) => Ok(self.call(call, sheet)),

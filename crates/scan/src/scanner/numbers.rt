@@ -60,7 +60,7 @@ impl Scanner<'_> {
         Some(value as u16)
     }
 
-    // The number of sixteen hexadecimal digits that stands next; else nothing is read.
+    // The number of sixteen hexadecimal digits that stands next; else nothing is read. Apart from `number`: how many digits there are decides.
     pub fn sixteen_digits(&mut self) -> Option<u64>
         ensures value { MatchOption result (self.new.at ≡ self.old.at) (λ v. (self.new.at ≡ self.old.at + 16) × (v ≡ numeral 16 self.old.text.now self.old.at 16)) }
         ensures same { self.new.text.now ≡ self.old.text.now }

@@ -83,4 +83,14 @@ impl<'a> Scanner<'a> {
     {
         self.at >= self.text.len() || self.is_next(b'#')
     }
+
+    // Past blanks, and whether the line is then read up to its end or a comment.
+    pub fn ends(&mut self) -> bool
+        ensures value { result ≡ (nat_le (length self.new.text.now) self.new.at || stands_at self.new.text.now self.new.at 35) }
+        ensures onward { self.old.at ≤ self.new.at }
+        ensures same { self.new.text.now ≡ self.old.text.now }
+    {
+        self.skip_blanks();
+        self.at_end()
+    }
 }

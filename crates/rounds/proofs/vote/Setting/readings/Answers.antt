@@ -9,4 +9,4 @@ unfolding readings_of reading
 returns g c =
     let said = c.code.ensures in
     let heard = c.trio-heard.ensures in
-    three-same c.read_line.ensures c.read_line-2.ensures c.read_line-3.ensures ∙ simp (heard, said)
+    three-same c.read_code.ensures c.read_code-2.ensures c.read_code-3.ensures ∙ simp (heard, said)
