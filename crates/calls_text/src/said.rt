@@ -3,7 +3,7 @@ use agreement::stage::Answer;
 use refusals::Refusal;
 use std::fmt;
 
-// Nothing where the line is no making and no call; else what came of it. A round has the digest of its sheet.
+// What came of a making or of a call, or that the line cannot be read. A round has the digest of its sheet.
 #[derive(Drop)]
 pub enum Said {
     Made(Result<(), Refusal>),

@@ -1,4 +1,4 @@
-// The worked cues run on the real hall, and every refusal of its calls in each state.
+// The worked cues run on the real hall, each of its calls in each state with what refuses it, a replay, and random cues.
 
 #![tactic(auto)]
 

@@ -55,9 +55,21 @@ fn cues_by_hand(rt: HostRuntime) -> Result<(), Fail> {
     Ok(())
 }
 
-// Each call in each state, and what refuses it first.
+// What a hall has at its making, before any call.
 #[test]
-fn refused_calls(rt: HostRuntime) -> Result<(), Fail> {
+fn a_new_hall(rt: HostRuntime) -> Result<(), Fail> {
+    let hall = three_gates(rt.alloc(), &[1])?;
+    assert!(rt; hall.state().stage == Stage::Idle);
+    assert_eq!(rt; hall.state().broken, 0);
+    assert!(rt; hall.state().held == [VOID; 16]);
+    assert_eq!(rt; hall.state().lamps, 0);
+    hall.agrees();
+    Ok(())
+}
+
+// Each call on an idle hall, and what refuses it first.
+#[test]
+fn calls_when_idle(rt: HostRuntime) -> Result<(), Fail> {
     let mut hall = three_gates(rt.alloc(), &[1])?;
     let mut sheet = [9; 4096];
     assert_eq!(rt; hall.round(&mut sheet), Err(Refusal::NotRunning));
@@ -69,8 +81,23 @@ fn refused_calls(rt: HostRuntime) -> Result<(), Fail> {
     assert_eq!(rt; hall.open(0, 3, Gate::Go), Err(Refusal::NoSuchStation));
     hall.mark(2)?;
     assert_eq!(rt; hall.mark(1), Err(Refusal::TooManyBroken));
+    assert_eq!(rt; hall.state().broken, 4);
+    hall.clear(2)?;
+    assert_eq!(rt; hall.state().broken, 0);
+    hall.open(0, 0, Gate::Go)?;
+    Ok(())
+}
+
+// Each call on a running hall, and what refuses it first.
+#[test]
+fn calls_while_running(rt: HostRuntime) -> Result<(), Fail> {
+    let mut hall = three_gates(rt.alloc(), &[1])?;
+    let mut sheet = [9; 4096];
     hall.open(0, 0, Gate::Go)?;
     assert_eq!(rt; hall.open(0, 0, Gate::Go), Err(Refusal::NotIdle));
+    assert_eq!(rt; hall.mark(3), Err(Refusal::NoSuchStation));
+    hall.mark(2)?;
+    assert_eq!(rt; hall.mark(1), Err(Refusal::TooManyBroken));
     assert_eq!(rt; hall.clear(2), Err(Refusal::NotIdle));
     assert_eq!(rt; hall.read(3).err(), Some(Refusal::NotDecided));
     assert_eq!(rt; hall.lamp(3), Err(Refusal::NoSuchStation));
@@ -79,12 +106,33 @@ fn refused_calls(rt: HostRuntime) -> Result<(), Fail> {
         hall.round(&mut sheet[0..4095]),
         Err(Refusal::SheetTooShort)
     );
+    hall.round(&mut sheet)?;
+    hall.strike()?;
+    assert!(rt; hall.state().stage == Stage::Idle);
+    assert!(rt; hall.state().held == [VOID; 16]);
+    assert_eq!(rt; hall.state().broken, 4);
+    Ok(())
+}
+
+// Each call on a decided hall, and what refuses it first.
+#[test]
+fn calls_when_decided(rt: HostRuntime) -> Result<(), Fail> {
+    let mut hall = three_gates(rt.alloc(), &[1])?;
+    let mut sheet = [9; 4096];
+    hall.mark(2)?;
+    hall.open(0, 0, Gate::Go)?;
     for _ in 0..4 {
         hall.round(&mut sheet)?;
     }
+    assert_eq!(rt; hall.open(0, 3, Gate::Go), Err(Refusal::NotIdle));
     assert_eq!(rt; hall.round(&mut sheet), Err(Refusal::NotRunning));
+    assert_eq!(rt; hall.mark(3), Err(Refusal::NoSuchStation));
+    assert_eq!(rt; hall.mark(1), Err(Refusal::TooManyBroken));
+    hall.mark(2)?;
+    assert_eq!(rt; hall.clear(2), Err(Refusal::NotIdle));
     assert_eq!(rt; hall.read(3).err(), Some(Refusal::NoSuchStation));
     assert!(rt; hall.read(1) == Ok(Gate::Go));
+    assert_eq!(rt; hall.lamp(3), Err(Refusal::NoSuchStation));
     assert_eq!(rt; hall.lamp(1), Ok(1));
     hall.strike()?;
     assert!(rt; hall.state().held == [VOID; 16]);

@@ -1,12 +1,10 @@
 -- What is written of a byte, of a string, of a packet. Assumes nothing.
-use Rattle.std.proofs.Common.{◌≡◌, ℕ, ◌+◌, ◌-◌, ◌^◌, ◌<◌, true, false, cond, List, [], ◌∷◌, ◌++◌, length, get_or, take, IfOk, Ok, Err, Some, string_bytes, codes, decimal, Result, String, sym, ap, ◌∙◌, arith}
+use Rattle.std.proofs.Common.{◌≡◌, ◌≢◌, ℕ, ◌+◌, ◌/◌, ◌%◌, ◌<◌, true, false, cond, List, [], ◌∷◌, ◌++◌, length, get_or, take, IfOk, Ok, Err, string_bytes, codes, decimal, Result, String, sym, ap, ◌∙◌, arith}
 use Rattle.std.proofs.lemmas.List.{flat_map_more, take_more}
 use Rattle.std.proofs.lemmas.Bool.Decides.{nat_tests}
 use Rattle.std.proofs.lemmas.Str.Ascii.{encode_ascii}
-use Rattle.std.proofs.lemmas.Fmt.{decimal_digit, hex_byte as two_digits}
+use Rattle.std.proofs.lemmas.Fmt.{decimal_digit}
 use Rattle.std.specs.List.{flat_map}
-use Rattle.std.specs.Option.{option_map}
-use Rattle.std.specs.Fmt.{digits, digits_output, styled_digits_output, padded_integral, format_spec}
 use lib.Utf8.{encode}
 use Rattle.refusals.specs.declared.Refusal.{Refusal}
 use Rattle.refusals.specs.declared.Refusal.TheVariants.{BrokenLayout}
@@ -14,33 +12,28 @@ use Rattle.refusals.specs.Refusals.{number_of}
 use Rattle.packets.specs.Osc.{Content}
 use Rattle.packets.specs.Read.{Says, Reads, Meaningless}
 use Rattle.packets.specs.declared.message.Message.{Message}
-use Rattle.packetdump.specs.Lines.{hex_byte, marked, itself, char_bytes, message_line, Shows}
+use Rattle.packetdump.specs.Lines.{hex_digit, hex_byte, marked, itself, char_bytes, message_line, Shows}
 
--- a byte that is shown behind a '\', or as itself, is its own text
-marked_ascii : (b : ℕ) → marked b ≡ true → b < 128
-marked_ascii b e = grind (arith, nat_tests)
-
-itself_ascii : (low b : ℕ) → itself low b ≡ true → b < 128
+pub itself_ascii : (low b : ℕ) → itself low b ≡ true → b < 128
 itself_ascii low b e = grind (arith, nat_tests)
 
-pub char_marked : (low b c : ℕ) → c ≡ b → marked b ≡ true → 92 ∷ encode c ≡ char_bytes low b
-unfolding char_bytes
-char_marked low b c f e =
-    ap (λ x. 92 ∷ encode x) f ∙ ap (λ x. 92 ∷ x) (encode_ascii b (marked_ascii b e)) ∙ ap (λ t. cond t (92 ∷ b ∷ []) (cond (itself low b) (b ∷ []) (92 ∷ 120 ∷ hex_byte b))) (sym e)
+pub other_marked : (b : ℕ) → marked b ≡ true → b ≢ 34 → b ≡ 92
+other_marked b e f = grind (arith, nat_tests)
 
-pub char_itself : (low b c : ℕ) → c ≡ b → marked b ≡ false → itself low b ≡ true → encode c ≡ char_bytes low b
+-- what is shown of a byte
+pub char_marked : (low b : ℕ) (xs : List ℕ) → marked b ≡ true → xs ≡ 92 ∷ b ∷ [] → xs ≡ char_bytes low b
 unfolding char_bytes
-char_itself low b c g e f =
-    ap encode g ∙ encode_ascii b (itself_ascii low b f) ∙ (λ i. cond (sym e i) (92 ∷ b ∷ []) (cond (sym f i) (b ∷ []) (92 ∷ 120 ∷ hex_byte b)))
+char_marked low b xs e f = f ∙ ap (λ t. cond t (92 ∷ b ∷ []) (cond (itself low b) (b ∷ []) (92 ∷ 120 ∷ hex_byte b))) (sym e)
 
-pub char_hex : (low b : ℕ) → marked b ≡ false → itself low b ≡ false → 92 ∷ 120 ∷ hex_byte b ≡ char_bytes low b
+pub char_itself : (low b : ℕ) (xs : List ℕ) → xs ≡ encode b → marked b ≡ false → itself low b ≡ true → xs ≡ char_bytes low b
 unfolding char_bytes
-char_hex low b e f = (λ i. cond (sym e i) (92 ∷ b ∷ []) (cond (sym f i) (b ∷ []) (92 ∷ 120 ∷ hex_byte b)))
+char_itself low b xs g e f =
+    g ∙ encode_ascii b (itself_ascii low b f) ∙ (λ i. cond (sym e i) (92 ∷ b ∷ []) (cond (sym f i) (b ∷ []) (92 ∷ 120 ∷ hex_byte b)))
 
--- what `{:02x}` writes of a byte
-pub hex_shown : (d : _) (s : _) (n : ℕ) → n < 256 → s ≡ format_spec 32 0 4 2 (2 ^ 64 - 1) → digits_output d ≡ Some (digits 16 false n) → styled_digits_output d s ≡ Some (hex_byte n)
-hex_shown d s n l e f =
-    ap (λ t. styled_digits_output d t) e ∙ ap (option_map (padded_integral (format_spec 32 0 4 2 (2 ^ 64 - 1)) false [])) f ∙ ap Some (two_digits false n l)
+pub char_hex : (low b : ℕ) (h l : List ℕ) → h ≡ hex_digit (b / 16) ∷ [] → l ≡ hex_digit (b % 16) ∷ [] → marked b ≡ false → itself low b ≡ false → (92 ∷ 120 ∷ h) ++ l ≡ char_bytes low b
+unfolding char_bytes
+char_hex low b h l g k e f =
+    (λ i. (92 ∷ 120 ∷ g i) ++ k i) ∙ (λ i. cond (sym e i) (92 ∷ b ∷ []) (cond (sym f i) (b ∷ []) (92 ∷ 120 ∷ hex_byte b)))
 
 -- one more byte, of which f is shown
 pub joined_more : (f : ℕ → List ℕ) (xs : List ℕ) (i : ℕ) → i < length xs → flat_map f (take i xs) ++ f (get_or xs i 0) ≡ flat_map f (take (i + 1) xs)

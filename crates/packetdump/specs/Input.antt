@@ -1,5 +1,5 @@
 -- What a stream of sizes and packets gives next. Assumes nothing.
-use Rattle.std.specs.Prelude.{◌≡◌, ℕ, List, [], length, ◌≢◌, Option, Some, None, Result, Ok, Err, Vec, vec_len}
+use Rattle.std.specs.Prelude.{◌≡◌, ℕ, List, [], length, ◌≢◌, Option, Some, None, Result, Ok, Err}
 use Rattle.packets.specs.Stream.{PacketSize, Announces}
 use Rattle.packetdump.specs.declared.input.Ending.{Ending}
 use Rattle.packetdump.specs.declared.input.Ending.TheVariants.{Size, InSize, InPacket, Io}
@@ -15,6 +15,6 @@ HeadOf bytes (Err InPacket) = ⊥
 HeadOf bytes (Err (Io e)) = ⊥
 
 -- a packet that was taken has a size that packets have
-abbrev pub Sized : {A : Type 0} → Option (Vec ℕ A) → Type 0
-Sized (Some packet) = PacketSize (vec_len packet)
+abbrev pub Sized : Option ℕ → Type 0
+Sized (Some n) = PacketSize n
 Sized None = Unit {0}

@@ -1,9 +1,8 @@
 // Packets taken from a stream, one at a time.
-ghost use Rattle.std.specs.Prelude.{IfOk};
+ghost use Rattle.std.specs.Prelude.{◌≤◌, length, IfOk};
 ghost use Rattle.packetdump.specs.Input.{HeadOf, Sized};
 
-use packets::packet_size;
-use std::alloc::Global;
+use packets::{MAX_PACKET, packet_size};
 use std::io;
 use std::io::Read;
 use thiserror::Error;
@@ -38,24 +37,36 @@ fn head_of(bytes: &[u8]) -> Result<Option<usize>, Ending>
     }
 }
 
-// The next so many bytes of the stream, or all that are left.
-fn take<R: Read>(heap: Global, input: &mut R, most: usize) -> io::Result<Vec<u8>> {
-    let mut bytes = Vec::new(heap);
-    input.by_ref().take(most as u64).read_to_end(&mut bytes)?;
-    Ok(bytes)
+// Fills the buffer from the stream, and says how many bytes came before the stream ended.
+// A buffer that is lent, and no `read_to_end`: a packet is read without memory of its own, in as few reads as it comes in.
+fn fill<R: Read>(input: &mut R, buffer: &mut [u8]) -> io::Result<usize>
+    ensures within { IfOk result (λ n. n ≤ length buffer.old) }
+{
+    let mut have = 0;
+    while have < buffer.len() {
+        let got = input.read(&mut buffer[have..])?;
+        if got == 0 {
+            break;
+        }
+        have += got;
+    }
+    Ok(have)
 }
 
-// The next packet of the stream, or `None` behind the last.
-pub(crate) fn next_packet<R: Read>(heap: Global, input: &mut R) -> Result<Option<Vec<u8>>, Ending>
+// Takes the next packet of the stream to the front of the buffer: how many bytes it has, or `None` behind the last packet.
+pub(crate) fn next_packet<R: Read>(
+    input: &mut R,
+    buffer: &mut [u8; MAX_PACKET],
+) -> Result<Option<usize>, Ending>
     ensures within { IfOk result Sized }
 {
-    let head = take(heap, input, 4)?;
-    let Some(size) = head_of(head.as_slice())? else {
+    let mut head = [0; 4];
+    let got = fill(input, &mut head)?;
+    let Some(size) = head_of(&head[..got])? else {
         return Ok(None);
     };
-    let packet = take(heap, input, size)?;
-    if packet.len() == size {
-        Ok(Some(packet))
+    if fill(input, &mut buffer[..size])? == size {
+        Ok(Some(size))
     } else {
         Err(Ending::InPacket)
     }

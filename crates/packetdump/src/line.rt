@@ -1,20 +1,46 @@
 // The line that shows a packet.
-ghost use Rattle.std.specs.Prelude.{◌≡◌, ℕ, List, Some, ◌++◌, IfOk, string_bytes, codes, decimal, OnOk};
+ghost use Rattle.std.specs.Prelude.{◌≡◌, ℕ, ◌<◌, List, [], ◌∷◌, Some, ◌++◌, IfOk, string_bytes, codes, decimal, OnOk};
 ghost use Rattle.std.specs.List.{flat_map};
 ghost use Rattle.packets.specs.Osc.{Value, Content};
 ghost use Rattle.packets.specs.Read.{value, Left, Says};
 ghost use Rattle.refusals.specs.Refusals.{number_of};
-ghost use Rattle.packetdump.specs.Lines.{marked, itself, char_bytes, hex_byte, value_bytes, argument_bytes, message_line, Shows};
+ghost use Rattle.packetdump.specs.Lines.{hex_digit, marked, itself, char_bytes, hex_byte, value_bytes, argument_bytes, message_line, Shows};
 
 use packets::{Argument, Message, read_message};
 use refusals::Refusal;
 use std::alloc::{AllocError, Global};
 use std::fmt;
+use std::fmt::Display;
 
 // The lowest byte that is shown as itself in an address, behind the space, and in a text.
 const ADDRESS_LOW: u8 = 33;
 
 const TEXT_LOW: u8 = 32;
+
+// A hexadecimal digit.
+fn hex_digit(d: u8) -> &'static str
+    requires { d < 16 }
+    ensures value { result.now ≡ hex_digit d ∷ [] }
+{
+    match d {
+        0 => "0",
+        1 => "1",
+        2 => "2",
+        3 => "3",
+        4 => "4",
+        5 => "5",
+        6 => "6",
+        7 => "7",
+        8 => "8",
+        9 => "9",
+        10 => "a",
+        11 => "b",
+        12 => "c",
+        13 => "d",
+        14 => "e",
+        _ => "f",
+    }
+}
 
 // Whether a byte is shown behind a backslash.
 fn is_marked(b: u8) -> bool
@@ -27,7 +53,7 @@ fn is_marked(b: u8) -> bool
 fn is_itself(low: u8, b: u8) -> bool
     ensures { result ≡ itself low b }
 {
-    (low..127).contains(&b)
+    low <= b && b < 127
 }
 
 // A byte of a string; one below `low` is not shown as itself.
@@ -42,13 +68,14 @@ impl fmt::Display for Char {
 
     fn fmt<W: fmt::Write>(&self, f: &mut fmt::Formatter<W>) -> fmt::Result {
         let b = self.byte;
-        let shown = char::from(b);
         if is_marked(b) {
-            write!(f, "\\{shown}")
+            f.write_str(if b == b'"' { "\\\"" } else { "\\\\" })
         } else if is_itself(self.low, b) {
-            write!(f, "{shown}")
+            f.write_str(char::from(b).encode_utf8(&mut [0; 1]))
         } else {
-            write!(f, "\\x{b:02x}")
+            f.write_str("\\x")?;
+            f.write_str(hex_digit(b / 16))?;
+            f.write_str(hex_digit(b % 16))
         }
     }
 }
@@ -66,7 +93,7 @@ impl fmt::Display for Chars<'_> {
     fn fmt<W: fmt::Write>(&self, f: &mut fmt::Formatter<W>) -> fmt::Result {
         let low = self.low;
         for byte in self.bytes {
-            write!(f, "{}", Char { low, byte: *byte })?;
+            Char { low, byte: *byte }.fmt(f)?;
         }
         Ok(())
     }
@@ -81,8 +108,8 @@ impl fmt::Display for Digits<'_> {
 
     fn fmt<W: fmt::Write>(&self, f: &mut fmt::Formatter<W>) -> fmt::Result {
         for byte in self.0 {
-            let b = *byte;
-            write!(f, "{b:02x}")?;
+            f.write_str(hex_digit(*byte / 16))?;
+            f.write_str(hex_digit(*byte % 16))?;
         }
         Ok(())
     }
@@ -97,12 +124,17 @@ impl fmt::Display for Shown<'_> {
 
     fn fmt<W: fmt::Write>(&self, f: &mut fmt::Formatter<W>) -> fmt::Result {
         match self.0 {
-            Argument::Number(n) => write!(f, "{n}"),
+            Argument::Number(n) => n.fmt(f),
             Argument::Text(bytes) => {
                 let low = TEXT_LOW;
-                write!(f, "\"{}\"", Chars { low, bytes })
+                f.write_str("\"")?;
+                Chars { low, bytes }.fmt(f)?;
+                f.write_str("\"")
             }
-            Argument::Blob(bytes) => write!(f, "0x{}", Digits(bytes)),
+            Argument::Blob(bytes) => {
+                f.write_str("0x")?;
+                Digits(bytes).fmt(f)
+            }
         }
     }
 }

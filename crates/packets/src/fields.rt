@@ -67,11 +67,17 @@ pub(crate) fn behind_byte<'a>(first: u8, bytes: &'a [u8]) -> Option<&'a [u8]>
     }
 }
 
+// How many bytes `zero_at` passes together where none of them is zero.
+const GROUP: usize = 48;
+
 // Where the first zero byte stands.
 pub(crate) fn zero_at(bytes: &[u8]) -> Option<usize>
     ensures { MatchOption result (Plain bytes.now) (Ends bytes.now) }
 {
-    bytes.iter().position(|b| *b == 0)
+    // By groups first: `contains` tests many bytes at a time, and `position` one.
+    let from = GROUP * bytes.chunks(GROUP).position(|group| group.contains(&0))?;
+    let n = bytes[from..].iter().position(|b| *b == 0)?;
+    Some(from + n)
 }
 
 // The first n bytes, and what stands behind them and their fill bytes, which are skipped.

@@ -1,7 +1,6 @@
 -- Sets gathered one station after another: the b for which some j below i has f b j.
-use Rattle.std.proofs.Common.{◌≡◌, ℕ, zero, suc, ◌+◌, Bool, true, false, cond, ◌&&◌, ◌||◌, eqb, [], ◌∷◌, ◌++◌, fold, filter, sym, refl, ap, ◌∙◌, ap₂, ⊎_elim, add-one, zero-add, arith}
+use Rattle.std.proofs.Common.{◌≡◌, ℕ, zero, suc, ◌+◌, Bool, true, false, cond, ◌&&◌, ◌||◌, eqb, [], ◌∷◌, ◌++◌, fold, sym, ap, ◌∙◌, ap₂, ⊎_elim, add-one, zero-add, arith}
 use Rattle.std.specs.List.{range_with_len}
-use Rattle.std.proofs.lemmas.List.Elements.{filter-append}
 use Rattle.std.proofs.lemmas.List.Sums.{fold-append}
 use Rattle.std.proofs.lemmas.Bool.Decides.{nat_tests}
 use Rattle.std.proofs.lemmas.Bool.{cond-true, cond-false, cases_Bool}
@@ -49,20 +48,14 @@ range_more a (suc n) j e = ap (λ l. a ∷ l) (range_more (a + 1) n j (omega ari
 
 -- the boxes of the stations of s, gathered in turn, are the boxes under s
 pub gathered : (f : ℕ → ℕ) (s n : ℕ)
-    → fold (λ under i. mask_of 16 (λ j. has under j || eqb (f i) j)) 0 (filter (has s) (range_with_len 0 n)) ≡ mask_of 16 (λ b. any n (λ j. has s j && eqb (f j) b))
+    → fold (λ under i. cond (has s i) (mask_of 16 (λ j. has under j || eqb (f i) j)) under) 0 (range_with_len 0 n) ≡ mask_of 16 (λ b. any n (λ j. has s j && eqb (f j) b))
 gathered f s zero = gather_none (λ b j. has s j && eqb (f j) b)
 gathered f s (suc n) =
-    let before = filter (has s) (range_with_len 0 n) in
-    ap (λ l. fold join 0 (filter (has s) l)) (range_more 0 n n (zero-add n))
-    ∙ ap (fold join 0) (filter-append (has s) (range_with_len 0 n) (n ∷ []))
-    ∙ fold-append join 0 before (filter (has s) (n ∷ []))
-    ∙ last (has s n) (fold join 0 before)
-    ∙ gather_step f s n (fold join 0 before) (gathered f s n)
+    let before = fold join 0 (range_with_len 0 n) in
+    ap (fold join 0) (range_more 0 n n (zero-add n))
+    ∙ fold-append join 0 (range_with_len 0 n) (n ∷ [])
+    ∙ gather_step f s n before (gathered f s n)
     ∙ ap (λ m. mask_of 16 (λ b. any m (λ j. has s j && eqb (f j) b))) (add-one n)
   where
     join : ℕ → ℕ → ℕ
-    join under i = mask_of 16 (λ j. has under j || eqb (f i) j)
-
-    last : (t : Bool) (under : ℕ) → fold join under (cond t (n ∷ []) []) ≡ cond t (join under n) under
-    last true under = refl
-    last false under = refl
+    join under i = cond (has s i) (mask_of 16 (λ j. has under j || eqb (f i) j)) under

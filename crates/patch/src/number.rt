@@ -1,5 +1,5 @@
 // The number of a patch: hexadecimal digit i, from the lowest, is the box under station i.
-ghost use Rattle.std.specs.Prelude.{◌≡◌, true, false, ◌||◌, MatchResult, ◌==◌};
+ghost use Rattle.std.specs.Prelude.{◌≡◌, true, false, ◌||◌, if◌then◌else◌, MatchResult, ◌==◌};
 ghost use Rattle.refusals.specs.declared.Refusal.{Refusal};
 ghost use Rattle.refusals.specs.declared.Refusal.TheVariants.{DigitTwice};
 ghost use Rattle.sets.specs.Sets.{has, mask_of};
@@ -52,19 +52,21 @@ impl Patch {
         digit(self.number, i)
     }
 
-    // The boxes gathered, with the box under station i as well.
-    fn gather(&self, under: u16, i: u8) -> u16
-        ensures { result ≡ mask_of 16 (λ j. has under j || box_of self.now.number i == j) }
+    // The boxes gathered, with the box under station i as well where the station is in the set.
+    fn gather(&self, under: u16, set: u16, i: u8) -> u16
+        ensures { result ≡ (if has set i then mask_of 16 (λ j. has under j || box_of self.now.number i == j) else under) }
     {
-        with(under, self.under(i))
+        if contains(set, i) {
+            with(under, self.under(i))
+        } else {
+            under
+        }
     }
 
     // The boxes under the stations of a set.
     pub fn down(&self, set: u16) -> u16
         ensures { result ≡ boxes (box_of self.now.number) set }
     {
-        (0..16)
-            .filter(|i| contains(set, *i))
-            .fold(0, |under, i| self.gather(under, i))
+        (0..16).fold(0, |under, i| self.gather(under, set, i))
     }
 }

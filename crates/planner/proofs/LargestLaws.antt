@@ -1,6 +1,6 @@
 -- When a set is a largest one that can fail, and the list of such sets, one set after the other.
 use Rattle.std.proofs.Common.{◌≡◌, ℕ, ◌+◌, ◌-◌, ◌^◌, ◌<◌, ◌≤◌, Bool, true, false, cond, not, ◌&&◌, ◌||◌, eqb, ltb, List, [], ◌∷◌, ◌++◌, length, get_or, sym, refl, ap, ◌∙◌, subst, ⊎_elim, arith, length-append, pow_pos, pow_mono, zero, suc, append-nil, Decides, map-id}
-use Rattle.std.specs.List.{filter, range_with_len}
+use Rattle.std.specs.List.{filter, list_all, range_with_len}
 use Rattle.std.proofs.lemmas.List.{get_or_push, get_or_append_left}
 use Rattle.std.proofs.lemmas.List.Elements.{filter-append}
 use Rattle.std.proofs.lemmas.List.FromFn.{length-range_with_len, get_or-range_with_len, map-range_with_len_more}
@@ -34,6 +34,26 @@ module _ (n : ℕ) (high : n ≤ 16) (fails : ℕ → Bool) (own : Own n fails) 
       let more : Part s (with_station s i) = λ j t. has-mask_of 16 (λ j. has s j || eqb i j) j (has-below 16 s j (mask_16 n s high (own s can)) t) ∙ or_left (has s j) (eqb i j) t in
       let here : has (with_station s i) i ≡ true = has-mask_of 16 (λ j. has s j || eqb i j) i (omega arith) ∙ or_right (has s i) (eqb i i) (eq-eqb i i refl) in
       both_ways (has s i) (not-true _ h.0) (largest.1 (with_station s i) h.1 more i here)
+
+-- the set with a station of its own is the set
+pub with_own : (s i : ℕ) → s < 2 ^ 16 → has s i ≡ true → s ≡ with_station s i
+with_own s i small t = mask_is 16 s (λ j. has s j || eqb i j) small (λ j l. ⊎_elim
+    (λ h. rw h refl)
+    (λ h. rw h (⊎_elim (λ q. absurd (both_ways (has s j) h (ap (has s) (sym (eqb-true i j q)) ∙ t))) (λ q. rw q refl) (cases_Bool (eqb i j))))
+    (cases_Bool (has s j)))
+
+-- one of n numbers passes a test, so not all fail it
+pub one_passes : (n : ℕ) (t : ℕ → Bool) (i : ℕ) → i < n → t i ≡ true → false ≡ list_all (λ i. not (t i)) (range_with_len 0 n)
+one_passes n t i l e = ⊎_elim
+    (λ h. let j : get_or (range_with_len 0 n) i 0 ≡ i = omega (arith, get_or-range_with_len 0 n i 0 l) in
+    absurd (both_ways (t i) (not-true _ (rw (← j) (AllPass-from_list_all (λ i. not (t i)) _ h i 0 (rw length-range_with_len l)))) e))
+    (λ f. sym f) (cases_Bool (list_all (λ i. not (t i)) (range_with_len 0 n)))
+
+-- none of them passes it, so all fail it
+pub none_passes : (n : ℕ) (t : ℕ → Bool) → ((i : ℕ) → i < n → t i ≡ false) → true ≡ list_all (λ i. not (t i)) (range_with_len 0 n)
+none_passes n t none = sym (list_all-from_AllPass (λ i. not (t i)) _ (λ k d l. let j : k < n = rw (sym (length-range_with_len 0 n)) l in
+    let e : k ≡ get_or (range_with_len 0 n) k d = omega (arith, get_or-range_with_len 0 n k d j) in
+    ap (λ i. not (t i)) (sym e) ∙ ap not (none k j)))
 
 module _ (n : ℕ) (high : n ≤ 16) (fails : ℕ → Bool) (own : Own n fails) (part : Parts fails) (s : ℕ) where
   may-not : (i : ℕ) → i < n → Largest fails s → may_join fails s i ≡ false

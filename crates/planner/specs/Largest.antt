@@ -21,6 +21,10 @@ pub record LargestSets (fails : ℕ → Bool) (ms : List ℕ) : Type 0 where
 abbrev pub may_join : (ℕ → Bool) → ℕ → ℕ → Bool
 may_join fails s i = not (has s i) && fails (with_station s i)
 
+-- whether none of n stations may join s
+abbrev pub no_station_joins : ℕ → (ℕ → Bool) → ℕ → Bool
+no_station_joins n fails s = list_all (λ i. not (may_join fails s i)) (range_with_len 0 n)
+
 -- the test of a largest set of n stations, station by station: it can fail, and none of them may join
 abbrev pub none_may_join : ℕ → (ℕ → Bool) → ℕ → Bool
-none_may_join n fails s = fails s && list_all (λ i. not (may_join fails s i)) (range_with_len 0 n)
+none_may_join n fails s = fails s && no_station_joins n fails s

@@ -12,7 +12,7 @@ ghost use Rattle.rounds.specs.Tallies.{backs, sure, graded_by};
 use crate::outcome::Outcome;
 use crate::search::lowest;
 use crate::sheet::Votes;
-use crate::stations::{by_station, set_of};
+use crate::stations::{by_station, count, set_of};
 use crate::view::View;
 use refusals::Refusal;
 use rigs::VOID;
@@ -24,7 +24,8 @@ impl<'a, Q: Rule> View<'a, Q> {
     fn backs(&self, w: u16, q: u8, r: u8) -> bool
         ensures { result ≡ backs (votes_on self.now.votes.now) self.now.p w q r }
     {
-        r == q || (r != self.p && self.vote(q, r) == w)
+        // By `|` and `&`, as one test, like `agrees`.
+        (r == q) | ((r != self.p) & (self.vote(q, r) == w))
     }
 
     // q together with all r whose v(p,q,r) is w.
@@ -47,7 +48,7 @@ impl<'a, Q: Rule> View<'a, Q> {
         ensures { (d : ℕ) → unwrap_or result d ≡ graded_held (rule_of Q.Rule self.now.rule.now) (is_word K.WordKind.word) d (votes_on self.now.votes.now) self.now.p }
     {
         let mut best = None;
-        for q in 0..self.rule.n() {
+        for q in 0..count(self.rule) {
             best = lowest(
                 self.rule,
                 best,

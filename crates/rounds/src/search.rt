@@ -4,6 +4,7 @@ ghost use Rattle.std.specs.Prelude.{◌≡◌, ℕ, ◌<◌, ◌^◌, Bool, Opti
 ghost use Rattle.rounds.specs.Stations.{Says};
 ghost use Rattle.rounds.specs.Searches.{lower as lower_of, lowest as lowest_of};
 
+use crate::stations::count;
 use rules::Rule;
 
 // The lower of the best word so far and a code, if that passes.
@@ -29,7 +30,7 @@ pub(crate) fn lowest<Q: Rule, C: Fn(u8) -> Option<u16>, F: Fn(u16) -> bool>(
     ensures { (f : ℕ → Option ℕ) (t : ℕ → Bool) → Says 16 (C.post code) f → Says (2 ^ 16) (F.post passes) t → result ≡ lowest_of t f best (Q.Rule.stations rule.now) }
 {
     let mut best = best;
-    for p in 0..rule.n() {
+    for p in 0..count(rule) {
         best = lower(best, code(p), &passes);
     }
     best

@@ -5,6 +5,7 @@ ghost use Rattle.rounds.specs.Sheets.{votes_on};
 ghost use Rattle.rounds.specs.Tallies.{agrees};
 
 use crate::sheet::{Votes, vote_at};
+use crate::stations::count;
 use rules::Rule;
 
 // The votes of the stations of a rule, as station p has them.
@@ -27,13 +28,14 @@ impl<'a, Q: Rule> View<'a, Q> {
     fn agrees(&self, w: u16, q: u8, r: u8) -> bool
         ensures { result ≡ agrees (votes_on self.now.votes.now) self.now.p w q r }
     {
-        r == self.p || r == q || self.vote(q, r) == w
+        // By `|`, as one test: `||` would have the processor guess at each station.
+        (r == self.p) | (r == q) | (self.vote(q, r) == w)
     }
 
     // Whether v(p,q,r) is w for every other r.
     pub(crate) fn is_unanimous(&self, w: u16, q: u8) -> bool
         ensures { result ≡ unanimous (Q.Rule.stations self.now.rule.now) (votes_on self.now.votes.now) self.now.p w q }
     {
-        (0..self.rule.n()).all(|r| self.agrees(w, q, r))
+        (0..count(self.rule)).all(|r| self.agrees(w, q, r))
     }
 }

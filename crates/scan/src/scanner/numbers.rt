@@ -8,7 +8,7 @@ impl Scanner<'_> {
     // Past the digit of this radix that stands next, with its value.
     #[tactic(auto, using(crate::proofs::Numerals::digits))]
     fn take_digit(&mut self, radix: u32) -> Option<u32>
-        requires { (10 ≤ radix) × (radix ≤ 16) }
+        requires { (2 ≤ radix) × (radix ≤ 16) }
         ensures value { MatchOption result (NoDigit radix self.old.text.now self.old.at × (self.new.at ≡ self.old.at)) (λ d. (d ≡ digit_value (slice_index self.old.text.now self.old.at)) × (self.new.at ≡ self.old.at + 1)) }
         ensures same { self.new.text.now ≡ self.old.text.now }
     {
@@ -20,7 +20,7 @@ impl Scanner<'_> {
 
     // The value of the digits that stand next, none of them for 0; nothing where it is over `most`.
     fn digits(&mut self, radix: u32, most: u64) -> Option<u64>
-        requires { (10 ≤ radix) × (radix ≤ 16) }
+        requires { (2 ≤ radix) × (radix ≤ 16) }
         ensures value { MatchOption result (self.old.at ≤ self.new.at) (λ v. (self.old.at ≤ self.new.at) × (v ≤ most) × (v ≡ numeral radix self.old.text.now self.old.at (self.new.at - self.old.at))) }
         ensures same { self.new.text.now ≡ self.old.text.now }
     {

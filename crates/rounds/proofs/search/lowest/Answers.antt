@@ -13,5 +13,5 @@ loop-p-init g c = λ f t _ _. refl
 pub loop-p-preserved : goal.loop-p-preserved
 loop-p-preserved g c = λ f t says passes.
     let p = c.loop-p.p in
-    let low : p < 16 = omega (arith, c.n-p-end.ensures, (g.met.Q.Rule.sized c.args.rule.now).1) in
+    let low : p < 16 = omega (arith, c.count-p-end.ensures, (g.met.Q.Rule.sized c.args.rule.now).1) in
     c.lower-best.ensures t passes ∙ ap₂ (lower t) (c.loop-p.invariant f t says passes) (says p c.code.result low c.code.ensures) ∙ sym (more t f c.args.best p)

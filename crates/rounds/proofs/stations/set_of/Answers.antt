@@ -11,7 +11,7 @@ loop-p-init g c = λ t says. refl
 pub loop-p-preserved : goal.loop-p-preserved
 loop-p-preserved g c = λ t says.
     let p = c.loop-p.p in
-    let low : p < 16 = omega (arith, c.n-p-end.ensures, (g.met.Q.Rule.sized c.args.rule.now).1) in
+    let low : p < 16 = omega (arith, c.count-p-end.ensures, (g.met.Q.Rule.sized c.args.rule.now).1) in
     let is = says p c.test.result low c.test.ensures in
     elim c.if-test.branch [
       | then-test w ↦ mask_in t p c.loop-p.set _ (c.loop-p.invariant t says) low (sym is ∙ w.if-test.true) (w.set-is ∙ w.with-set.ensures)

@@ -27,7 +27,7 @@ loop-q-preserved g c =
     let q = c.loop-q.q-counter in
     subst (λ (best : Option ℕ). Found R v self.p words (q + 1) best)
     (sym (c.lowest-best.ensures (λ r. Some (v self.p q r)) (row_tried R v self.p words q) (λ r x low post. search rules) (λ w b low post. search rules)))
-    (found_more R L v self.p words q c.loop-q.best (omega (arith, c.n-q-end.ensures)) c.loop-q.invariant)
+    (found_more R L v self.p words q c.loop-q.best (omega (arith, c.count-q-end.ensures)) c.loop-q.invariant)
 
 pub returns : goal.returns
 returns g c = λ d.
@@ -36,5 +36,5 @@ returns g c = λ d.
     let met = g.met.Q.Rule in
     let R = rule_of g.Q.Rule rule in
     let L : LawfulRule R = record { sized = met.sized rule; own = met.own rule; part = met.part rule; single = met.single rule; apart = met.apart rule } in
-    let e : c.loop-q.q-counter ≡ R.n = omega (arith, c.n-q-end.ensures) in
+    let e : c.loop-q.q-counter ≡ R.n = omega (arith, c.count-q-end.ensures) in
     found_all R L (votes_on self.votes.now) self.p (is_word g.K.WordKind.word) (small-words _ _ g.met.K.WordKind.sized g.met.K.WordKind.full) c.loop-q.best (rw e at c.loop-q.invariant) d

@@ -11,6 +11,6 @@ pub returns : goal.returns
 unfolding unanimous
 returns g c =
     let t = agrees (votes_on c.args.self.now.votes.now) c.args.self.now.p c.args.w c.args.q in
-    every-from_all t c.n.result c.all.result
-    (cases_from_all _ _ c.all.result (λ r. t r ≡ true) (λ r. t r ≡ false) c.all.ensures.ran (YieldsList-from_range 0 c.n.result c.n.result refl (omega arith)) (λ x q k. search rules) (λ x q k. search rules))
-    ∙ ap (λ (n : ℕ). every n t) c.n.ensures
+    every-from_all t c.count.result c.all.result
+    (cases_from_all _ _ c.all.result (λ r. t r ≡ true) (λ r. t r ≡ false) c.all.ensures.ran (YieldsList-from_range 0 c.count.result c.count.result refl (omega arith)) (λ x q k. search rules) (λ x q k. search rules))
+    ∙ ap (λ (n : ℕ). every n t) c.count.ensures
